@@ -209,7 +209,7 @@ struct rdsrt_wait { uint32_t silent, text, name; };
 
 /* ---- Receiver ---- */
 
-/* Makes a receiver of the programme `pi` that has heard nothing yet. dwell: M, 1 to 65535 slots.
+/* Makes a receiver of the programme `pi` that has received nothing yet. dwell: M, 1 to 65535 slots.
  * Returns RDSRT_OK, or RDSRT_BAD_ARGUMENT if the dwell is 0. */
 uint32_t rdsrt_receiver_init(struct rdsrt_receiver *receiver, uint16_t pi, uint16_t dwell);
 

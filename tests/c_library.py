@@ -21,7 +21,8 @@ LIBC = {"memcpy", "memset", "memmove", "memcmp"}
 # the files that tools/stage lays out, also in a release, and those of ./install
 STAGED = {"bin/rdsrt", "include/rdsrt.h", "lib/librdsrt.a", "lib/librdsrt.so", f"lib/librdsrt.so.{ABI}",
           "lib/pkgconfig/rdsrt.pc", "lib/cmake/rdsrt/rdsrt-config.cmake", "lib/cmake/rdsrt/rdsrt-config-version.cmake",
-          "share/man/man1/rdsrt.1", "share/doc/rdsrt/DEFINITIONS.md", "share/doc/rdsrt/FORMATS.md", "share/doc/rdsrt/GUIDE.md",
+          "share/man/man1/rdsrt.1",
+          *(f"share/doc/rdsrt/{it}.md" for it in ("DEFINITIONS", "FORMATS", "TEST", "STATION", "RECEIVER")),
           "share/bash-completion/completions/rdsrt", "share/zsh/site-functions/_rdsrt",
           "share/fish/vendor_completions.d/rdsrt.fish"}
 INSTALLED = STAGED | {f"share/doc/rdsrt/examples/c/{it}" for it in os.listdir(path("examples/c"))}

@@ -1,5 +1,5 @@
 #!/usr/bin/env python3
-"""Follows names: which definitions a statement reaches. docs/TRUST.md has the lists, and test_trust compares them.
+"""Follows names: which definitions a statement reaches. docs/proof/PROOFS.md has the lists, and test_trust compares them.
 
 usage: python3 tests/reading.py   prints the definitions of the headline by their files, how many they are, how many the
                                   law of audits adds, and the files of the headline of a world

@@ -72,9 +72,9 @@ class Install(Case):
         words = [*emulated.runner(), os.path.join(self.prefix, "bin/rdsrt"), "decode", "--pi", "C201"]
         self.check("hi.log", output(words, bytes_of("examples/hi.log")), (0, b'0 text "HI"\n'))
 
-    def test_trust_names_the_functions_of_c_that_the_program_rests_on(self):
+    def test_proofs_names_the_functions_of_c_that_the_program_rests_on(self):
         reached = re.findall(r"^  \S+::(\w+) +reached$", text_of(f"{ARM.built('rdsrt', 'rdsrt')}.verdict"), re.M)
-        text, count = re.search(r"^(- `axioms=(\d+)`.*?)\n\n", text_of("docs/TRUST.md"), re.M | re.S).groups()
+        text, count = re.search(r"^(- `axioms=(\d+)`.*?)\n\n", text_of("docs/proof/PROOFS.md"), re.M | re.S).groups()
         self.check("the functions", {*re.findall(r"`([a-z_]\w*)`", text)}, {*reached})
         self.check("how many", count, str(len(reached)))
 

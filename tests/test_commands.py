@@ -14,7 +14,7 @@ from tests.support import ROOT, SECONDS, Case, found_program, temporary_folder, 
 MANUAL = "docs/man/rdsrt.1"
 HELP = ["tests/shown/help.txt",
         *(f"tests/shown/help_of_{it}.txt" for it in ("decode", "audit", "witness", "slots", "encode", "sim"))]
-PAGES = sorted(os.path.relpath(it, ROOT) for at in ("", "docs", "crates", "examples", "python", "experiments/*")
+PAGES = sorted(os.path.relpath(it, ROOT) for at in ("", "docs", "docs/proof", "examples", "python", "experiments/*")
                for it in glob.glob(os.path.join(ROOT, at, "*.md")))
 # programs of examples/ that say at their start how they are called
 EXAMPLES = sorted(os.path.relpath(it, ROOT) for at in ("station", "send", "json", "monitor", "v4l2", "fm/*", "c/*.c")
@@ -61,7 +61,6 @@ RUN = [
 ]
 # a command, and the test or the script that runs it
 RUN_BY = [
-    (r"ls logs/\*\.log \| xargs ", "test_guide.Guide.test_the_line_of_xargs"),
     (r"parallel -k --tag ", "test_guide.Guide.test_the_lines_of_parallel"),
     (r"(?:examples/)?station --m 128 now.txt .*send HOST:PORT$", "test_send.Send.test_the_line_of_the_page"),
     (r"(?:examples/)?station --m 128 ", "test_guide.Guide.test_the_pipe_of_a_station"),
@@ -89,13 +88,11 @@ RUN_BY = [
     (r"bench/fades$", "test_fades"),
     (r"page/build$", "test_page_build"),
     (r"tools/shipped.py$", "test_shipped"),
-    (r"tools/proof$", "test_release.Proof"),
     (r"tools/build rds_ffi", "test_c_library.Archive"),
     (r"clang -g .* && \./fuzz$", "test_c_library.Archive.test_the_line_of_security_runs_a_fuzzer"),
     (r"rdsrt slots \| head -c ", "test_pipes"),
     (r"\./rdsrt (?:decode|audit|witness|encode|sim) .* examples/[\w.]+$", "test_examples"),
     (r"rdsrt slots$|rdsrt \.\. \| head$", "test_pipes"),
-    (r"rdsrt audit --pi C201 station.log$", "test_input_files"),
 ]
 # a command that nothing runs here, and the reason
 NOT_HERE = [
@@ -104,7 +101,7 @@ NOT_HERE = [
     (r"\(cd crates/rds_encoder && rt check\)", "it proves a crate with a wrong line; test_trust has the line"),
     (r"rt ", "a command of the kit: the gate runs `rt ci`, and that takes minutes"),
     (r"\./install PREFIX --target (?:aarch64|armv7)$", "it builds for another target; tests/release runs it"),
-    (r"tools/build(?:$|  # .*\n\./test +# )", "it proves for up to half an hour, and the tests run what it made"),
+    (r"tools/build$", "it proves for up to half an hour, and the tests run what it made"),
     (r"tools/unproved$", "it builds for minutes; test_crates runs it with programs in place of the kit's"),
     (r"tools/release$|tools/release (?:--snapshot )?OUT$|tests/release$", "makes or tries all packages, by hand: 30 minutes"),
     (r"tools/edits(?: NAME)?$", "it proves for minutes; test_edits tests all that needs no prover"),
@@ -198,8 +195,8 @@ class Commands(Case):
                 self.check(f"{path}: {command}", ran(command, errors=errors), output)
 
     def test_these_pages_show_commands(self):
-        for path in ["README.md", "docs/GUIDE.md", "docs/FORMATS.md", "docs/ARCHITECTURE.md", "docs/DEFINITIONS.md",
-                     MANUAL, *HELP]:
+        for path in ["README.md", "docs/TEST.md", "docs/RECEIVER.md", "docs/FORMATS.md",
+                     "docs/proof/ARCHITECTURE.md", MANUAL, *HELP]:
             self.check(f"{path} has commands", [*commands_in(path)] != [], True)
 
     def test_each_other_command_does_what_the_table_says(self):

@@ -87,7 +87,7 @@ class Fm(Case):
             self.check(f"{decibels} dB: groups in a wrong slot", radio.wrong_places(got.lines, got.sent), 0)
 
     def test_corrected_bits(self):
-        """At 5 dB correction gives nearly every group, and no wrong text is shown by a receiver that hears twice."""
+        """At 5 dB correction gives nearly every group, and no wrong text is shown by a receiver that shows what came twice."""
         plain = radio.Case("5 dB", 1700, 128, 5, 4, [], False)
         corrected = plain._replace(correct=2)
         counts = []
@@ -104,7 +104,7 @@ class Fm(Case):
         log = [f"C201 F000 {number * 40503 & 0xFFFF:04X} {number:04X}" for number in range(60)]
         log[20] = log[30] = "F201 F000 0000 0000"
         samples, begins = transmitted("\n".join(log).encode()), {}
-        mine, other = "receive: hears C201, and {} its groups\n", "receive: hears F201, and {} its groups\n"
+        mine, other = "receive: found C201, and {} its groups\n", "receive: found F201, and {} its groups\n"
         for asked, taken, said in ((None, "C201", mine.format("takes") + other.format("leaves out")),
                                    ("C201", "C201", mine.format("takes") + other.format("leaves out")),
                                    ("F201", "F201", mine.format("leaves out") + other.format("takes"))):
@@ -114,9 +114,9 @@ class Fm(Case):
             # the last two slots may be missing
             begins[asked] = next((at for at in range(30) if len(got) > 20 and got == wanted[at:][:len(got)]), None)
             self.check(f"--pi {asked}: up to the end", 58 <= (begins[asked] or 0) + len(got) <= 60, True)
-            self.check(f"--pi {asked}: what it hears", done.stderr.decode(), said)
+            self.check(f"--pi {asked}: what it found", done.stderr.decode(), said)
         self.check("where they begin", (begins[None] - begins["C201"], begins["C201"] < 4, begins["F201"]), (1, True, 20))
-        for seconds, said in ((9, b""), (11, b"receive: hears no PI in 10 s: is there a station with RDS?\n")):
+        for seconds, said in ((9, b""), (11, b"receive: found no PI in 10 s: is there a station with RDS?\n")):
             done = subprocess.run([radio.RECEIVE], input=bytes(2 * 171_000 * seconds), capture_output=True,
                                   timeout=radio.SECONDS)
             self.check(f"{seconds} s of silence", (done.stdout, done.stderr, done.returncode), (b"", said, 0))
@@ -245,4 +245,4 @@ class Pages(Case):
         self.check("the dongle", dongle.startswith("rtl_fm "), True)
         lines = ran(f"{station} | {rest.replace(' --live', '')}").splitlines()
         self.check("its texts", [it.split(" ", 1)[1] for it in lines if " text " in it or it.startswith("receive")],
-                   ["hears C201, and takes its groups", 'text "Édith Piaf, Milord"'])
+                   ["found C201, and takes its groups", 'text "Édith Piaf, Milord"'])

@@ -1,4 +1,5 @@
-"""docs/GUIDE.md beside the program: its tables are those that the scripts print, and its advice works."""
+"""TEST, STATION and RECEIVER of docs/ beside the program: their tables are those that the scripts print, and their advice
+works."""
 import datetime
 import itertools
 import os
@@ -93,7 +94,7 @@ def shown_in(lines, dwell):
 
 class Guide(Case):
     def setUp(self):
-        self.text = text_of("docs/GUIDE.md")
+        self.text = "".join(text_of(f"docs/{it}.md") for it in ("TEST", "STATION", "RECEIVER"))
 
     def test_its_tables_are_those_that_the_scripts_print(self):
         rows = {line.strip() for line in self.text.splitlines() if line.strip().startswith("|")}
@@ -135,7 +136,7 @@ class Guide(Case):
 
     def test_the_counts_of_a_station_with_short_texts(self):
         notes = listed(["--running"], hour_of_short_texts())[2].splitlines()
-        page = text_of("docs/GUIDE.md").replace(",\n        last in", ", last in")
+        page = self.text.replace(",\n        last in", ", last in")
         self.check("notes of audit --all", [line for line in notes if f"    {line}\n" not in page], [])
         self.check("number of notes", len(notes), 3)
 
@@ -155,7 +156,7 @@ class Guide(Case):
 
     def test_each_fault_has_the_time_of_its_line(self):
         """In a log with comments, empty lines and two programmes, whose lines end in a line feed or in CR LF."""
-        audit, pick = re.search(r"^    (\./rdsrt audit --all .* > faults\.txt)$.*?^    (awk .*? station\.log)$", self.text,
+        audit, pick = re.search(r"^    (\./rdsrt audit --all [^\n]* > faults\.txt)$.*?^    (awk .*? station\.log)$", self.text,
                                 re.M | re.S).groups()
         log = ["# two programmes", f"{HI} @12.00", "", f"{HI.replace('C201', 'D201')} @12.09", f"{YO} @12.18", "<mark>",
                f"{HA} @12.26", "% the text changes", f"{HI}", f"{TWO} @12.44"]
@@ -191,12 +192,6 @@ class Guide(Case):
             with open(os.path.join(folder, f"logs/{name}.log"), "w", encoding="ascii") as file:
                 file.write(log)
         return folder
-
-    def test_the_line_of_xargs(self):
-        call = re.search(r"^ +(ls .* xargs .*)$", self.text, re.M)[1]
-        run = done(call, at=self.folder_of_logs())
-        self.check("the answers", sorted(run.stdout.decode().splitlines()),
-                   [f"logs/{name}.log: {line}" for name in sorted(LOGS) for line in ANSWERS[name]])
 
     @needs("parallel", package="parallel")
     def test_the_lines_of_parallel(self):

@@ -1,4 +1,4 @@
-"""docs/GUIDE.md, "What your encoder does": each row of its table is what logs of a few lines show.
+"""docs/TEST.md, "What your encoder does": each row of its table is what logs of a few lines show.
 
 The radio with the flag alone is `decode --m 65535`. The dwell is 8 slots. A row may have more than one log.
 """
@@ -138,9 +138,10 @@ def shown(log, lost):
 
 class Habits(Case):
     def setUp(self):
-        section = text_of("docs/GUIDE.md").split("### What your encoder does\n")[1].split("\n### ")[0]
+        page = text_of("docs/TEST.md")
+        section = page.split("## What your encoder does\n")[1].split("\n## ")[0]
         self.rows = dict(re.findall(r"^\| (.*?) \| (.*?) \|", section, re.M))
-        self.filters = re.findall(r"^    sed -E 's/(.*?)/.*?/' station\.log \|", text_of("docs/GUIDE.md"), re.M)
+        self.filters = re.findall(r"^    sed -E 's/(.*?)/.*?/' station\.log \|", page, re.M)
 
     def test_each_row_is_played(self):
         self.check("rows", [it for it in self.rows if it not in ("What your encoder does", "---")], [*HABITS])

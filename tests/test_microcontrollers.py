@@ -72,9 +72,9 @@ class Microcontrollers(Case):
             program = self.for_board(compiler, library, top, folder, source)
             self.check(source, ran_on(board, program, argument, given), (0, wanted))
         place = 1 + (target != "cortex-m4")
-        said = re.search(r"(\d+) KB on a Cortex-M4, (\d+) KB on an M0\+", text_of("docs/GUIDE.md"))
+        said = re.search(r"(\d+) KB on a Cortex-M4, (\d+) KB on an M0\+", text_of("docs/RECEIVER.md"))
         self.check(f"flash of a receiver alone for {target}, in KB", self.flash(compiler, library, folder), int(said[place]))
-        said = re.search(r"([\d,]+) bytes on a Cortex-M4, ([\d,]+) on an M0\+", text_of("docs/GUIDE.md"))
+        said = re.search(r"([\d,]+) bytes on a Cortex-M4, ([\d,]+) on an M0\+", text_of("docs/RECEIVER.md"))
         room = int(said[place].replace(",", ""))
         taken = int(ran_on(board, self.for_board(compiler, library, top, folder, "tests/c/stack.c"))[1])
         self.check(f"stack of a call for {target}", (taken <= room, taken), (True, taken))
@@ -88,7 +88,7 @@ class Microcontrollers(Case):
         return program
 
     def flash(self, compiler, library, folder):
-        """Returns how much flash a receiver alone takes, as docs/GUIDE.md says it."""
+        """Returns how much flash a receiver alone takes, as docs/RECEIVER.md says it."""
         program = os.path.join(folder, "alone")
         words = [*compiler, "-Os", "-nostartfiles", "-Wl,-e,entry", "-Wl,--gc-sections", "-x", "c", "-", "-x", "none",
                  library, "-o", program]

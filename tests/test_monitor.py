@@ -321,7 +321,7 @@ class Monitor(PackageCase):
     @needs("parallel", package="parallel")
     def test_the_guides_lines_share_stations_among_machines(self):
         """This machine takes the place of two, and the feed prints a text of each station."""
-        split, share = re.search(r"^ +(split .*)\n +(parallel .*)$", text_of("docs/GUIDE.md"), re.M).groups()
+        split, share = re.search(r"^ +(split .*)\n +(parallel .*)$", text_of("docs/RECEIVER.md"), re.M).groups()
         self.check("the guide's hosts", "-S one,two" in share and "/opt/rdsrt/examples/monitor" in share, True)
         place = os.path.join(self.folder, "share")
         os.mkdir(place)

@@ -8,7 +8,7 @@ import os
 import re
 
 from tests.support import ROOT, Case, text_of
-from tests.test_pages import all_pages
+from tests.test_commands import PAGES
 
 import crates
 
@@ -29,8 +29,7 @@ MADE = {"hi.c", "tests/out", "page/out", "page/out/index.html", "crates/rds_ffi/
         "crates/NAME/edits/what_is_wrong.edit"}
 # paragraphs that each cite one name that does not exist
 STALE = ["The crate rds_nowhere.", "`DecodesNowhere` says so.", "See `specs/Nowhere`.", "See tests/nowhere.py.",
-         "The edit restores_no_faults.", "The test neighbours_in_two_slots.", "By rds_core_tests `latenesses` and `neighbours_in_two_slots`.",
-         "| Task | Used in |\n|---|---|\n| play | `latenesses`, `neighbours_in_two_slots` |\n"]
+         "The edit restores_no_faults.", "The test neighbours_in_two_slots.", "By rds_core_tests `latenesses` and `neighbours_in_two_slots`."]
 
 
 class Sources:
@@ -59,13 +58,6 @@ class Sources:
         return any(fnmatch.fnmatch(f"/{it}", end) for end in ends for it in self.paths)
 
 
-def tests_in_tables(page):
-    """Gives the names in the columns `Used in`, of cells that have names alone."""
-    for rows in re.findall(r"^\|.*\| Used in \|\n((?:\|.*\n)+)", page, re.M):
-        for names in re.findall(r"\| ((?:`\w+`(?:, )?)+) \|$", rows, re.M):
-            yield from re.findall(r"\w+", names)
-
-
 def stale(sources, page):
     """Gives each crate, file, edit and test in the text of a page that does not exist."""
     page = re.sub(r"```.*?```", "", page, flags=re.S)
@@ -78,7 +70,6 @@ def stale(sources, page):
         yield from (f"{kind} {it}" for it in re.findall(r"\w+_\w+", names) if it not in known)
     for names in re.findall(rf"\brds_\w+_tests ((?:`\w+`(?:, and |, | and )?)+)", text):
         yield from (f"test {it}" for it in re.findall(r"`(\w+)`", names) if it not in sources.tests)
-    yield from (f"test {it}" for it in tests_in_tables(page) if it not in sources.tests)
 
 
 def theorems():
@@ -101,7 +92,7 @@ class Names(Case):
 
     def test_each_name_in_a_page_exists(self):
         sources = Sources()
-        for page in all_pages():
+        for page in PAGES:
             self.check(f"{page}: names that do not exist", [*stale(sources, text_of(page))], [])
         for text in STALE:
             self.check(f"{text!r} has a stale name", len([*stale(sources, text)]) > 0, True)

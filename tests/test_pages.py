@@ -5,24 +5,17 @@ import re
 import subprocess
 
 from tests.support import ROOT, SECONDS, Case, found_program, ran, script, text_of
-from tests.test_commands import MANUAL, manual
+from tests.test_commands import MANUAL, PAGES, manual
 import crates
 from shipped import anchors
 
-HEADER, CURES = "include/rdsrt.h", "page/index.html"
+HEADER, CURES, INDEX = "include/rdsrt.h", "page/index.html", "docs/README.md"
 FAULTS = {"EarlyFlag", "Changed", "NotOneText", "EarlyTag", "TagOutside"}
 REPLIES = ("ok", "silent", "held", "notext", "outoftext")
 FAULT_LINES = ("fault line", "fault row", "fault read", "fault too long", "fault memory", "fault pi",
                "fault confirm", "fault lose")
 # each time is in one page
 TIMES = (crates.FIRST_PROOF, "40 to 80 minutes", "1 to 2 minutes", "3 to 9 minutes")
-
-
-def all_pages():
-    """Returns the paths of all Markdown pages."""
-    folders = ("", "docs", "crates", "examples", "python", "experiments/*")
-    found = [it for at in folders for it in glob.glob(os.path.join(ROOT, at, "*.md"))]
-    return sorted(os.path.relpath(it, ROOT) for it in found)
 
 
 def broken_links(path, text):
@@ -35,6 +28,12 @@ def broken_links(path, text):
             yield link
 
 
+def linked(path):
+    """Returns the files and folders that a page links."""
+    names = re.findall(r"\]\(([^)\s#]+)", text_of(path))
+    return {os.path.normpath(os.path.join(os.path.dirname(path), it)) for it in names}
+
+
 def plain(text):
     """Returns only the words, without line ends and signs of comments, roff and code."""
     joined = re.sub(r'"\s*\+\s*"', "", text)
@@ -44,24 +43,24 @@ def plain(text):
 class Pages(Case):
     def test_each_link_and_each_named_section_exists(self):
         """Each relative link leads to a file, and each anchor to a heading; each section that is named is there."""
-        for path in all_pages():
+        for path in PAGES:
             self.check(f"{path}: links that lead nowhere", [*broken_links(path, text_of(path))], [])
         for link in ("docs/NOWHERE.md", "README.md#nowhere", "#nowhere"):
             self.check(f"a link to {link} leads nowhere", [*broken_links("README.md", f"See [it]({link}).")], [link])
         sources = [os.path.relpath(it, ROOT) for kind in ("md", "h", "c", "js", "py", "rt", "html")
                    for it in glob.glob(os.path.join(ROOT, f"**/*.{kind}"), recursive=True) if "/out/" not in it]
-        named = r"\b(README|CONTRIBUTING|CHANGELOG|(?:docs/)?[A-Z]{5,})(?:\.md)?[)`]*, \"([A-Z][^\"\n]*)\""
+        named = r"\b((?:docs/)?[A-Z]{3,})(?:\.md)?[)`]*, \"([A-Z][^\"\n]*)\""
         for path in sources:
             for page, section in re.findall(named, text_of(path)):
-                page = next((it for it in all_pages() if os.path.basename(it) == os.path.basename(page) + ".md"), None)
+                page = next((it for it in PAGES if os.path.basename(it) == os.path.basename(page) + ".md"), None)
                 if page:
                     self.check(f"{path}: section {section} of {page}",
                                section in re.findall(r"^#+ (.*)$", text_of(page), re.M), True)
 
-    def test_readme_leads_to_each_page(self):
-        """README leads to each page."""
-        linked = {os.path.normpath(it.partition("#")[0]) for it in re.findall(r"\]\(([^)\s]+)\)", text_of("README.md"))}
-        self.check("README leads to each page", set(all_pages()) - linked - {"README.md"}, set())
+    def test_no_page_is_lost(self):
+        """README leads to the index, and the index to each page."""
+        self.check("README leads to the index", INDEX in linked("README.md"), True)
+        self.check("pages that the index lacks", {*PAGES} - linked(INDEX) - {INDEX}, set())
 
     def test_each_fault_of_the_audit_has_one_wording(self):
         """Each fault of the audit has one wording, with cause and cure. The page has the cures alone, beside the
@@ -89,7 +88,7 @@ class Pages(Case):
             self.check(f"FORMATS has {word}", word in formats, True)
 
     def test_each_time_is_in_one_page(self):
-        texts = {path: text_of(path) for path in all_pages()}
+        texts = {path: " ".join(text_of(path).split()) for path in PAGES}
         for time in TIMES:
             self.check(f"'{time}' is in one page", [sum(text.count(time) for text in texts.values())], [1])
 
@@ -101,14 +100,14 @@ class Pages(Case):
         for path in release.PLACES:
             self.check(f"version in {path}", release.version_in(path), version)
 
-    def test_the_contracts_in_trust_are_in_the_sources(self):
-        """The lines of the contracts that TRUST shows are in the sources."""
+    def test_the_contracts_in_proofs_are_in_the_sources(self):
+        """The lines of the contracts that PROOFS shows are in the sources."""
         sources = set()
         for kind in ("src/*.rt", "specs/*.antt"):
             for path in glob.glob(os.path.join(ROOT, "crates/*", kind)):
                 sources |= {line.strip() for line in text_of(os.path.relpath(path, ROOT)).splitlines()}
-        blocks = [it for it in re.findall(r"```text\n(.*?)```", text_of("docs/TRUST.md"), re.S) if "pub record" in it]
-        self.check("TRUST has contracts: that of the wire and that of a world", len(blocks), 2)
+        blocks = [it for it in re.findall(r"```text\n(.*?)```", text_of("docs/proof/PROOFS.md"), re.S) if "pub record" in it]
+        self.check("PROOFS has contracts: that of the wire and that of a world", len(blocks), 2)
         shown = [line.strip() for block in blocks for line in block.splitlines() if line.strip()]
         # two dots replace the parameters
         missing = [it for it in shown if it not in sources and not any(

@@ -64,11 +64,11 @@ class Pages(Case):
         doc = "usr/share/doc/rdsrt"
         self.lay("debian", {"examples": f"{doc}/examples", "include/rdsrt.h": "usr/include/rdsrt.h"})
         shipped_pages.links(self.check, self.tree)
-        guide = text_of(os.path.join(self.tree, doc, "GUIDE.md"))
+        guide = "".join(text_of(os.path.join(self.tree, doc, f"{it}.md")) for it in ("TEST", "STATION", "RECEIVER"))
         for word in ("examples/json", "examples/monitor", "/opt/rdsrt", "./rdsrt"):
-            self.check(f"the guide of Debian has no {word}", word in guide, False)
+            self.check(f"the pages of Debian have no {word}", word in guide, False)
         for word in ("| rdsrt-json |", "| rdsrt-monitor {}"):
-            self.check(f"the guide of Debian has {word}", word in guide, True)
+            self.check(f"the pages of Debian have {word}", word in guide, True)
 
     def test_wheel(self):
         self.lay("wheel", {})

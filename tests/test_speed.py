@@ -57,15 +57,14 @@ class Speed(ProgramCase):
             few, many = (tasks.instructions(tasks.losing(PROGRAM, count), log.name, (0, 1)) for count in (spans, 2 * spans))
         self.check(f"{many} instructions beside {few}", many <= 1.5 * few, True)
 
-    def test_all_faults_take_little_more_than_the_first_one(self):
-        """Of a log that passes, where both judge each slot. The list of faults also keeps the segments of each text, to say
-        which changes are harmless."""
+    def test_all_faults_take_the_instructions_of_the_first_one(self):
+        """Of a log that passes, where both judge each slot: one engine serves both."""
         with tempfile.TemporaryDirectory() as folder:
             call = tasks.ours(PROGRAM, "audit", 0)
             few, many = (tasks.made_input(folder, PROGRAM, "audit", 0, 0, slots) for slots in (SLOTS, 2 * SLOTS))
             counts = [tasks.instructions(words, many) - tasks.instructions(words, few)
                       for words in (call, [*call, "--all"])]
-            self.check(f"{counts[1]} instructions beside {counts[0]}", counts[1] <= 1.25 * counts[0], True)
+            self.check(f"{counts[1]} instructions beside {counts[0]}", counts[1] <= 1.01 * counts[0], True)
 
 
 if __name__ == "__main__":

@@ -12,7 +12,7 @@ DWELLS = [
     ("page/ui/app.js", r"DEFAULTS = \{ m: "),
     ("page/index.html", r'id="log-m" min="1" max="65535" value="'),
     ("examples/station", r'"--m", type=int, default='),
-    ("docs/GUIDE.md", r"The default is "),
+    ("docs/TEST.md", r"The default is "),
 ]
 # each table of names: a file, and the pattern in front of the names between quotation marks
 NAMES = [

@@ -1,20 +1,20 @@
-"""docs/TRUST.md: its reading lists have each definition and each file that the headlines reach, and no other one. What
-other pages prove has a law."""
+"""docs/proof/PROOFS.md: its reading lists have each definition and each file that the headlines reach, and no other one.
+What other pages prove has a law."""
 import glob
 import re
 
 from tests import reading
 from tests.support import Case, path, text_of
 
-STEP = "rds_world/src/world.rt"
+PROOFS, STEP = "docs/proof/PROOFS.md", "rds_world/src/world.rt"
 # pages that say "we prove". Behind that, in the same paragraph, they name the law or call: in HTML comments, and the
 # header in its own comment
-PROVING = ("README.md", "docs/GUIDE.md", "docs/AIR.md", "include/rdsrt.h")
+PROVING = ("README.md", "docs/STATION.md", "docs/RECEIVER.md", "docs/AIR.md", "include/rdsrt.h")
 LAW = re.compile(r"\blaw: (rds_\w+) (\w+(?:::\w+)?)(?:, clauses? (\w+(?:, \w+)*))?")
 
 
 def section():
-    return text_of("docs/TRUST.md").split("### Reading list\n")[1].split("\n\nThe notation")[0]
+    return text_of(PROOFS).split("## Reading list\n")[1].split("\n\nThe notation")[0]
 
 
 def listed():
@@ -52,12 +52,6 @@ def lacking(crate, name, clauses):
     return [it for it in re.findall(r"\w+", clauses) if f"ensures {it} " not in "".join(found)] if found else [name]
 
 
-def headlines():
-    """Gives the headline as each page says it, up to what is safe."""
-    yield "README", re.search(r"^\*\*Headline\*\*\.(.*?)\n\n", text_of("README.md"), re.M | re.S)[1]
-    yield "TRUST", text_of("docs/TRUST.md").split("## The headline in words\n")[1].split("\n\n- ")[0]
-
-
 class Trust(Case):
     def test_what_a_page_proves_has_a_law(self):
         for page in PROVING:
@@ -72,15 +66,16 @@ class Trust(Case):
 
     def test_the_headline_names_the_options_that_it_needs(self):
         """Without the same --rtplus it is false: test_rtplus plays that."""
-        for page, headline in headlines():
-            options = "`decode` has the same `--pi`, `--m` and `--rtplus`, and no `--confirm`"
-            self.check(f"{page}: options of decode", options in " ".join(headline.split()), True)
-        audit, = re.findall(r"^\| \*\*Audit\*\*.*$", text_of("docs/TRUST.md"), re.M)
+        page = text_of("docs/TRUST.md")
+        headline = page.split("## The headline in words\n")[1].split("\n\n- ")[0]
+        options = "`decode` has the same `--pi`, `--m` and `--rtplus`, and no `--confirm`"
+        self.check("options of decode", options in " ".join(headline.split()), True)
+        audit, = re.findall(r"^\| \*\*Audit\*\*.*$", page, re.M)
         self.check("what a yes does not say", "`--rtplus`" in audit.split("|")[3], True)
 
     def test_the_line_to_break_is_in_the_source(self):
         """The page names the function by its line, and the clause that is refused."""
-        text = text_of("docs/TRUST.md").split("### Break it yourself\n")[1].split("\n### ")[0]
+        text = text_of(PROOFS).split("## Break it yourself\n")[1].split("\n## ")[0]
         path, = re.findall(r"(crates/\S+\.rt) is the line\n", text)
         line, = re.findall(r"is the line\n\n```text\n(.*)\n```", text)
         number, column, clause = re.search(r":(\d+):(\d+): it is not proved .*\(`returns-clause-(\w+)`\)", text).groups()
@@ -95,10 +90,11 @@ class Trust(Case):
         found = reading.closure(reading.WIRE, reading.PROMISED)
         rows, definitions, lines = reading.by_file(found)
         text = section()
+        flat = " ".join(text.split())
         self.check("the table", re.findall(r"^\|rds_.*$", text, re.M), rows)
-        self.check("its size", re.findall(r"these (\d+) definitions, which have (\d+)\nlines", text),
+        self.check("its size", re.findall(r"these (\d+) definitions, which have (\d+) lines", flat),
                    [(f"{definitions}", f"{lines}")])
-        self.check("what the law of audits adds", re.findall(r"adds (\d+) definitions", text),
+        self.check("what the law of audits adds", re.findall(r"adds (\d+) definitions", flat),
                    [f"{reading.added_by_audits()}"])
         named, = re.findall(r"of its `csv`, (.*?)\. ", text, re.S)
         self.check("names of the kit's csv", set(re.findall(r"`(\w+)`", named)), reading.of_csv(found))
@@ -111,5 +107,5 @@ class Trust(Case):
         self.check("not in the list", sorted(reached - shown), [])
         self.check("in the list, and not reached", sorted(shown - reached), [])
         lines = sum(len(text_of(f"crates/{it}").splitlines()) for it in shown if "/specs/" in it)
-        self.check("its size", re.findall(r"have ([\d,]+)\s+lines\.", section().split("For `sim`")[1]),
+        self.check("its size", re.findall(r"have\s+([\d,]+)\s+lines\.", section().split("For `sim`")[1]),
                    [f"{round(lines, -2):,}"])

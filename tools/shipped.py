@@ -14,8 +14,8 @@ from typing import NamedTuple
 
 ROOT = os.path.dirname(os.path.dirname(os.path.abspath(__file__)))
 MANUAL = "docs/man/rdsrt.1"
-DOCS = ("docs/AIR.md", "docs/COMPATIBILITY.md", "docs/DEFINITIONS.md", "docs/FORMATS.md", "docs/GUIDE.md", "docs/PROMISES.md",
-        "docs/TRUST.md", "CHANGELOG.md")
+INSTALLED = ("docs/TEST.md", "docs/STATION.md", "docs/RECEIVER.md", "docs/FORMATS.md", "docs/proof/DEFINITIONS.md")
+DOCS = (*INSTALLED, "docs/AIR.md", "docs/COMPATIBILITY.md", "docs/TRUST.md", "docs/proof/PROOFS.md", "CHANGELOG.md")
 LINK = re.compile(r"!?\[([^\]]*)\]\(([^)\s#]*)(?:#([^)\s]*))?\)")
 
 
@@ -29,18 +29,16 @@ class Layout(NamedTuple):
     words: list
 
 
-def docs_in(folder):
-    return {it: f"{folder}/{os.path.basename(it)}" for it in DOCS}
+def docs_in(folder, pages=DOCS):
+    return {it: f"{folder}/{os.path.basename(it)}" for it in pages}
 
 
 UNIT = "usr/lib/systemd/system/rdsrt-monitor.service"
 LIBRARY = (r"(?m)^Environment=RDSRT_LIBRARY=.*\n", "")
 LAYOUTS = {
-    # the pages are those that include/rdsrt.h names
-    "install": Layout(
-        {MANUAL: "share/man/man1/rdsrt.1", **{it: f"share/doc/rdsrt/{os.path.basename(it)}"
-                                              for it in ("docs/DEFINITIONS.md", "docs/FORMATS.md", "docs/GUIDE.md")}},
-        {}, [(r"\./rdsrt\b", "rdsrt")]),
+    # the pages are those that include/rdsrt.h names, and those for the users of the program and the library
+    "install": Layout({MANUAL: "share/man/man1/rdsrt.1", **docs_in("share/doc/rdsrt", INSTALLED)}, {},
+                      [(r"\./rdsrt\b", "rdsrt")]),
     # all commands run in the top folder
     "tarball": Layout(
         {**docs_in("share/doc/rdsrt"), MANUAL: "share/man/man1/rdsrt.1", "examples/README.md": "share/rdsrt/examples/README.md",
@@ -56,7 +54,7 @@ LAYOUTS = {
          "examples/README.md": "usr/share/doc/rdsrt/examples/README.md", "examples/monitor.service": UNIT,
          "python/README.md": "usr/share/doc/python3-rdsrt/README.md"},
         {"include/rdsrt.h": ("usr/include/rdsrt.h", "include/rdsrt.h")},
-        [(r"\./rdsrt\b", "rdsrt"), (r"(?m)^#   (?:useradd|cp) .*\n", ""), (r"rdsrt in /opt/rdsrt, ", ""), LIBRARY,
+        [(r"\./rdsrt\b", "rdsrt"), (r"(?m)^#   (?:useradd|cp) .*\n", ""), (r"rdsrt\s+in\s+/opt/rdsrt,\s+", ""), LIBRARY,
          (r"(?<![\w./-])(?:/opt/rdsrt/)?examples/(json|monitor)\b(?!\.)", r"rdsrt-\1"),
          (r"(?<![\w./-])examples/c/", "/usr/share/doc/librdsrt-dev/examples/"),
          (r"(?<![\w./-])examples/", "/usr/share/doc/rdsrt/examples/"),

@@ -1,4 +1,4 @@
-"""What to do with saved states after the power was lost, as rdsrt.h and GUIDE.md say."""
+"""What to do with saved states after the power was lost, as rdsrt.h and STATION.md say."""
 import pickle
 import random
 import unittest

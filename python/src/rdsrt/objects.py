@@ -170,7 +170,7 @@ class _Plain:
 
 
 class Receiver(_Plain):
-    """A receiver of the programme `pi` that has heard nothing yet. It drops a text if no part of it arrived for `dwell`
+    """A receiver of the programme `pi` that got nothing yet. It drops a text if no part of it arrived for `dwell`
     slots.
 
     With a `window`, 2 to 255 slots, it shows only what it received twice less than so many slots apart. Its groups may
