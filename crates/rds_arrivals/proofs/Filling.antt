@@ -1,16 +1,15 @@
 -- Lemmas: a filled log is heard by an own clock that counts no slot too few.
 use Rattle.std.proofs.lemmas.Bool.Decides.{nat_tests}
-use Rattle.std.proofs.Common.{◌≡◌, ◌⊎◌, ◌+◌, ◌<◌, ◌≤◌, ℕ, zero, suc, List, [], ◌∷◌, length}
-use Rattle.std.proofs.Common.{Option, Some, None, max, refl, ap, arith}
+use Rattle.std.proofs.Common.{◌≡◌, ◌⊎◌, ◌+◌, ◌<◌, ◌≤◌, ℕ, zero, suc, List, [], ◌∷◌, length, Option, Some, None, max}
+use Rattle.std.proofs.Common.{refl, ap, arith}
 use Rattle.std.specs.List.{All}
 use Rattle.std.proofs.lemmas.List.Elements.{All-head, All-tail}
 use Rattle.rds_safety.specs.Late.{CameFrom, HasEntry, IsHeardInOrder}
 use Rattle.rds_safety.specs.OwnClock.{IsHeardByOwnClock}
-use Rattle.rds_safety.proofs.Entries.{before_end}
-use Rattle.rds_safety.proofs.OnTime.{nothing_in_order, one_more_in_order}
+use Rattle.rds_safety.proofs.Entries.{before_end, nothing_in_order, one_more_in_order}
 use Rattle.rds_arrivals.specs.Arrivals.{and_lost, filled, lost_before, lost_until}
-use Rattle.rds_arrivals.specs.Delivered.{AreBelowASlot, AreOf, Delivery, EachTwo, IsLater, IsOnItsWay}
-use Rattle.rds_arrivals.specs.Delivered.{KeepsPace, arrivals, delivered_input, origins}
+use Rattle.rds_arrivals.specs.Delivered.{AreBelowASlot, AreOf, Delivery, EachTwo, IsLater, IsOnItsWay, KeepsPace}
+use Rattle.rds_arrivals.specs.Delivered.{arrivals, delivered_input, origins}
 use Rattle.rds_arrivals.specs.Laws.{AreDelivered}
 
 lost_long : {X : Type 0} (n : ℕ) (before : List (Option X)) → length (and_lost n before) ≡ n + length before

@@ -27,6 +27,7 @@ impl LastMinute {
     }
 
     /// Returns the minute of the date and the time of day at this place, and keeps both.
+    #[tactic(auto, using(std::proofs::lemmas::Bool::Decides::nat_tests, crate::proofs::Minutes::minute_of_same, crate::proofs::Minutes::minute_same))]
     pub(crate) fn minutes_at(&mut self, text: &[u8], place: usize) -> Option<u64>
         requires within { place + 16 ≤ length text.now }
         requires place { place ≤ 1 }

@@ -35,6 +35,7 @@ impl<S: Service> Model for Assembly<S> {
 
 impl<S: Service> Assembly<S> {
     /// Makes an assembly without segments.
+    #[tactic(auto, using(crate::proofs::HeldLemmas::nothing_held))]
     pub fn new() -> Self
         ensures { result ≡ map.empty }
     {
@@ -46,6 +47,7 @@ impl<S: Service> Assembly<S> {
     }
 
     /// Drops all segments.
+    #[tactic(auto, using(crate::proofs::HeldLemmas::nothing_held))]
     pub fn clear(&mut self)
         ensures { self.new ≡ map.empty }
     {
@@ -75,6 +77,7 @@ impl<S: Service> Assembly<S> {
     }
 
     /// Returns whether no segment is held.
+    #[tactic(auto, using(std::proofs::lemmas::Bool::Decides::nat_tests, crate::proofs::HeldLemmas::no_bit, crate::proofs::HeldLemmas::nothing_held))]
     pub fn is_empty(&self) -> bool
         ensures { IsTrue result ↔ (self.now ≡ map.empty) }
     {

@@ -14,6 +14,7 @@ pub(crate) fn returns_in(bytes: &[u8; 64]) -> u64
 }
 
 /// Returns which bytes are of segments whose bit is set: each bit of the mask, four times.
+#[tactic(auto, using(crate::proofs::LanesLemmas::spread_all))]
 pub(crate) fn spread(mask: u16) -> u64
     ensures { IsSpread mask result }
 {

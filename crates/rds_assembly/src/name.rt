@@ -32,6 +32,7 @@ impl Name {
     /// # Errors
     ///
     /// [`TextRefused`] if there are more than eight bytes, or else for the first byte that is not allowed.
+    #[tactic(auto, using(std::proofs::lemmas::Grind::common_steps))]
     pub fn new(bytes: &[u8]) -> Result<Name, TextRefused>
         ensures accepted { IsOk result ↔ IsGivenName bytes.now }
         ensures value { IfOk result (λ name. name ≡ name_body bytes.now) }

@@ -1,6 +1,6 @@
 -- Lemmas: the fault of a log has the name of the rule that its first failing slot breaks first.
-use Rattle.std.proofs.Common.{◌≡◌, ◌⊎◌, ◌≤◌, ◌∷◌, ◌∙◌, [], ℕ, true, false, List, Option}
-use Rattle.std.proofs.Common.{None, Some, ap, arith, inl, inr, length, refl, sym}
+use Rattle.std.proofs.Common.{◌≡◌, ◌⊎◌, ◌≤◌, ◌∷◌, ◌∙◌, [], ℕ, true, false, List, Option, None, Some, ap, arith, inl}
+use Rattle.std.proofs.Common.{inr, length, refl, sym}
 use Rattle.std.specs.List.{AllByRecursion}
 use Rattle.std.proofs.lemmas.Bool.Decides.{nat_tests}
 use Rattle.rds_fields.specs.declared.message.Message.{Message}
@@ -21,7 +21,7 @@ use Rattle.rds_audit.specs.Listing.{spans_after, spans_tagged}
 use Rattle.rds_audit.specs.ListingLaws.{IsFormedMark, IsFormedMessage}
 use Rattle.rds_audit.specs.Reigns.{Reign, after_fragment, after_tags, opened_from, with_fragment}
 use Rattle.rds_audit.specs.Rules.{CanBeBroadcast, LogPasses, Passes}
-use Rattle.rds_audit.proofs.Measures.{none_past}
+use Rattle.rds_audit.proofs.LengthSets.{none_past}
 use Rattle.rds_audit.proofs.OneValue.{gauge_is_exact, name_gauge_is_exact}
 use Rattle.rds_audit.proofs.ListingSteps.{names_add, no_fault, passes_without, passing_adds, texts_add}
 use Rattle.rds_audit.proofs.SpanReigns.{adds_all, are_reigns, by_fragment}

@@ -1,19 +1,22 @@
 -- Lemmas: sets of lengths as numbers.
 use Rattle.std.proofs.lemmas.Bool.Decides.{nat_tests}
-use Rattle.std.proofs.Common.{◌≡◌, ◌⊎◌, ◌+◌, ◌-◌, ◌*◌, ◌/◌, ◌%◌, ◌^◌, ◌<◌, ◌≤◌, ◌&&◌, ◌||◌, min, max, ℕ, zero, suc, Bool}
-use Rattle.std.proofs.Common.{true, false, nat_eq, nat_lt, nat_le, cond, List, [], ◌∷◌, length, slice_index, refl, sym, ap, ◌∙◌, inl, inr, arith}
+use Rattle.std.proofs.Common.{◌≡◌, ◌⊎◌, ◌+◌, ◌-◌, ◌*◌, ◌/◌, ◌%◌, ◌^◌, ◌<◌, ◌≤◌, ◌&&◌, ◌||◌, min, max, ℕ, zero, suc}
+use Rattle.std.proofs.Common.{Bool, true, false, nat_eq, nat_lt, nat_le, cond, List, [], ◌∷◌, length, slice_index, refl}
+use Rattle.std.proofs.Common.{sym, ap, ◌∙◌, inl, inr, arith, Option, Some, None, not, get_or}
 use Rattle.std.specs.Prelude.{bit_and, bit_or}
 use Rattle.std.specs.Int.{bit_at}
-use Rattle.std.proofs.lemmas.Bool.{cases_lt, eq-eqb, eqb-true}
+use Rattle.std.proofs.lemmas.Bool.{cases_lt, eq-eqb, eqb-true, false_from_ne_true}
 use Rattle.rds_assembly.specs.Value.{is_text_byte}
-use Rattle.rds_audit.specs.Lengths.{Gauge, in_name, in_padded_text, in_text, may_stand}
-use Rattle.std.proofs.lemmas.Nat.{div_below, one_shl, pow_below, le-div, pow_pos, shr-shr, shr_le}
+use Rattle.rds_audit.specs.Lengths.{Gauge, in_name, in_padded_text, in_text, may_stand, is_past, those, allows, holds}
+use Rattle.rds_audit.specs.Lengths.{left_or, lengths_of, measure, measured_after, sent_cells, limit_at, same_bytes}
+use Rattle.std.proofs.lemmas.Nat.{div_below, one_shl, pow_below, le-div, pow_pos, shr-shr, shr_le, and_le_l}
 use Rattle.std.proofs.lemmas.Nat.Bits.{bit_at-suc, bit_at-zero, bit_at_above, bit_at_and, bit_at_cat_high}
-use Rattle.std.proofs.lemmas.Nat.Bits.{bit_at_cat_low, bit_at_lowest, bit_at_mask_above}
-use Rattle.std.proofs.lemmas.Nat.Bits.{bit_at_mask_below, bit_at_mask_inside, bit_at_ones, bit_at_ones_above}
-use Rattle.std.proofs.lemmas.Nat.Bits.{bit_at_or, same_from_bits}
+use Rattle.std.proofs.lemmas.Nat.Bits.{bit_at_cat_low, bit_at_lowest, bit_at_mask_above, bit_at_mask_below}
+use Rattle.std.proofs.lemmas.Nat.Bits.{bit_at_mask_inside, bit_at_ones, bit_at_ones_above, bit_at_or, same_from_bits}
 use Rattle.std.proofs.Math.Nat.{pow-suc}
-use Rattle.rds_audit.specs.Lengths.{is_past, those}
+use Rattle.rds_receiver.specs.declared.fragment.Fragment.{Fragment}
+use Rattle.rds_audit.proofs.SpanOrder.{bytes_same, same_bytes_are}
+use Rattle.rds_audit.specs.ReignsState.{ContentState, cell_at, changes_in, measured_in}
 
 pow_next : (n : ℕ) → 2 ^ suc n ≡ 2 ^ n + 2 ^ n
 pow_next n = omega (arith, pow-suc 2 n)
@@ -241,3 +244,106 @@ pub name_those : (place byte : ℕ)
     → cond (nat_le 32 byte) (those (λ n. nat_le (place + 1) n) 65) 0 ≡ those (λ n. in_name n place byte) 65
 name_those i b = picked (nat_le 32 b) (λ n. nat_le (i + 1) n) 65
     ∙ same_those _ _ 65 (λ n h. grind (arith, nat_tests))
+
+-- ---- what a fragment leaves of a set of lengths
+
+-- bytes that are held leave all lengths
+pub measure_held : (g : Gauge) (cells : List (Option (List ℕ))) (l address : ℕ) (bytes : List ℕ)
+    → holds (get_or cells address None) bytes ≡ true
+    → measure g cells l address bytes ≡ record { lengths = l; fits = true }
+unfolding measure
+measure_held g cells l address bytes e = rw e refl
+
+-- others leave those at which they may stand
+pub measure_other : (g : Gauge) (cells : List (Option (List ℕ))) (l address : ℕ) (bytes : List ℕ)
+    → holds (get_or cells address None) bytes ≡ false
+    → measure g cells l address bytes
+    ≡ left_or l (bit_and l (those (allows g (get_or cells address None) address bytes) 65))
+unfolding measure
+measure_other g cells l address bytes e = rw e refl
+
+left_less : (l left : ℕ) → left ≤ l → (left_or l left).lengths ≤ l
+left_less l left h = grind (arith, nat_tests)
+
+measure_less : (g : Gauge) (cells : List (Option (List ℕ))) (l address : ℕ) (bytes : List ℕ)
+    → (measure g cells l address bytes).lengths ≤ l
+measure_less g cells l address bytes = by (holds (get_or cells address None) bytes) refl
+  where
+    by : (b : Bool) → holds (get_or cells address None) bytes ≡ b → (measure g cells l address bytes).lengths ≤ l
+    by true e = rw (measure_held g cells l address bytes e) (omega arith)
+    by false e = rw (measure_other g cells l address bytes e) (left_less l _ (and_le_l l _))
+
+-- no fragment leaves more lengths
+pub measured_less : (g : Gauge) (older : List Fragment) (p : Fragment)
+    → (measured_after g older p).lengths ≤ lengths_of g older
+measured_less g older p = measure_less g (sent_cells older) (lengths_of g older) p.address p.bytes
+
+-- what was sent last at an address changes nothing
+pub measured_again : (g : Gauge) (older : List Fragment) (p : Fragment)
+    → get_or (sent_cells older) p.address None ≡ Some p.bytes
+    → measured_after g older p ≡ record { lengths = lengths_of g older; fits = true }
+measured_again g older p e = measure_held g (sent_cells older) (lengths_of g older) p.address p.bytes
+    (rw e (bytes_same p.bytes p.bytes refl))
+
+some_fit : (l left : ℕ) → 0 < l → 0 < (left_or l left).lengths
+some_fit l left some = grind (arith, nat_tests)
+
+measure_some : (g : Gauge) (cells : List (Option (List ℕ))) (l address : ℕ) (bytes : List ℕ) → 0 < l
+    → 0 < (measure g cells l address bytes).lengths
+measure_some g cells l address bytes some = by (holds (get_or cells address None) bytes) refl
+  where
+    by : (b : Bool) → holds (get_or cells address None) bytes ≡ b → 0 < (measure g cells l address bytes).lengths
+    by true e = rw (measure_held g cells l address bytes e) some
+    by false e = rw (measure_other g cells l address bytes e)
+        (some_fit l (bit_and l (those (allows g (get_or cells address None) address bytes) 65)) some)
+
+-- some length is left by any fragments, so they are not past 0
+left_some : (g : Gauge) → 0 < g.lengths → (fragments : List Fragment) → 0 < lengths_of g fragments
+left_some g some [] = some
+left_some g some (p ∷ older) =
+    measure_some g (sent_cells older) (lengths_of g older) p.address p.bytes (left_some g some older)
+
+-- a set with a length is not past 0
+pub not_past : (l : ℕ) → 0 < l → is_past l 0 ≡ false
+not_past l some = grind (arith, nat_tests)
+
+pub none_past : (g : Gauge) → 0 < g.lengths → (fragments : List Fragment) → is_past (lengths_of g fragments) 0 ≡ false
+none_past g some fragments = not_past (lengths_of g fragments) (left_some g some fragments)
+
+-- ---- the code's steps
+
+-- bytes that are held
+pub measures_held : (g : Gauge) (address : ℕ) (bytes : List ℕ) (c : ContentState) → cell_at address c ≡ Some bytes
+    → record { lengths = c.lengths; fits = true } ≡ measured_in g address bytes c
+measures_held g address bytes c e = sym (measure_held g c.cells c.lengths address bytes (rw e (bytes_same bytes bytes
+    refl)))
+
+not_held : (o : Option (List ℕ)) (bytes : List ℕ) → (o ≡ Some bytes → ⊥) → holds o bytes ≡ false
+not_held None bytes other = refl
+not_held (Some held) bytes other = false_from_ne_true _ (λ t. other (ap Some (sym (same_bytes_are bytes held t))))
+
+-- others, from the lengths of their bytes and those beside what is held
+pub measures_other : (g : Gauge) (address : ℕ) (bytes : List ℕ) (c : ContentState) (at beside : ℕ)
+    → (cell_at address c ≡ Some bytes → ⊥) → at ≡ those (λ n. may_stand g n (4 * address) bytes) 65
+    → beside ≡ those (λ n. nat_lt n (limit_at g.bends address (cell_at address c) bytes)) 65
+    → left_or c.lengths (bit_and c.lengths (bit_and at beside)) ≡ measured_in g address bytes c
+measures_other g address bytes c at beside other is_at is_beside =
+    rw (
+      is_at,
+      is_beside,
+      and_those (λ n. may_stand g n (4 * address) bytes)
+          (λ n. nat_lt n (limit_at g.bends address (cell_at address c) bytes)) 65,
+    )
+    (sym (measure_other g c.cells c.lengths address bytes (not_held (cell_at address c) bytes other)))
+
+-- the same bytes change nothing, and others do if they do not fit
+pub same_changes : (g : Gauge) (address : ℕ) (bytes held : List ℕ) (c : ContentState) → cell_at address c ≡ Some held
+    → held ≡ bytes → false ≡ changes_in g address bytes c
+same_changes g address bytes held c e same = rw (e, bytes_same bytes held (sym same)) refl
+
+pub other_changes : (g : Gauge) (address : ℕ) (bytes held : List ℕ) (c : ContentState) → cell_at address c ≡ Some held
+    → (held ≡ bytes → ⊥) → not (measured_in g address bytes c).fits ≡ changes_in g address bytes c
+other_changes g address bytes held c e other =
+    let differ : same_bytes bytes held ≡ false = false_from_ne_true _ (λ t. other (sym (same_bytes_are bytes held t)))
+    in
+    rw (e, differ) refl

@@ -14,13 +14,12 @@ use Rattle.rds_audit.specs.Ages.{Ages, HasCurrent}
 use Rattle.rds_audit.specs.Judging.{judged_step}
 use Rattle.rds_audit.specs.declared.text_form.TextForm.{TextForm}
 use Rattle.rds_audit.specs.Lengths.{Gauge, gauge_of, name_gauge}
-use Rattle.rds_audit.specs.Listing.{IsFaultOf, Span, added, both, first_fault, first_of}
-use Rattle.rds_audit.specs.Listing.{none_broken, reigns_of, slot_adds, spans}
+use Rattle.rds_audit.specs.Listing.{IsFaultOf, Span, added, both, first_fault, first_of, none_broken, reigns_of}
+use Rattle.rds_audit.specs.Listing.{slot_adds, spans}
 use Rattle.std.specs.List.{AllByRecursion}
 use Rattle.rds_audit.specs.ListingLaws.{IsFormedMessage}
 use Rattle.rds_audit.specs.AuditAt.{AuditAt, EndsSlot, FollowsLog, HasJudged, HoldsLog, HoldsSlot, HoldsSpans}
-use Rattle.rds_audit.specs.AuditAt.{HoldsNewestSpans}
-use Rattle.rds_audit.specs.AuditAt.{IsSpacing, KeepsLog, ListsMessage, TakesAll, TakesMark}
+use Rattle.rds_audit.specs.AuditAt.{HoldsNewestSpans, IsSpacing, KeepsLog, ListsMessage, TakesAll, TakesMark}
 use Rattle.rds_audit.specs.AuditState.{SpansState, aged_in}
 use Rattle.rds_audit.specs.Stored.{fault_of, form_of, spans_stored, start_of}
 use Rattle.rds_audit.specs.declared.audit.Audit.{Audit}
@@ -28,9 +27,9 @@ use Rattle.rds_audit.specs.declared.stored.StoredSpans.{StoredSpans}
 use Rattle.rds_audit.specs.Recording.{counted_as, has_text, judged_as, silent_as}
 use Rattle.rds_audit.specs.Rules.{LogPasses}
 use Rattle.rds_audit.proofs.OneValue.{gauge_is_exact, name_gauge_is_exact}
-use Rattle.rds_audit.proofs.Recordings.{IsSilent, names_begin, silent_passes, texts_begin}
+use Rattle.rds_audit.proofs.SpanSteps.{IsSilent, names_begin, silent_passes, texts_begin, nothing_follows, sets_are}
+use Rattle.rds_audit.proofs.SpanSteps.{spans_later}
 use Rattle.rds_audit.proofs.SpanReigns.{adds_none, quiet_passes, service_passed_before}
-use Rattle.rds_audit.proofs.SpanSteps.{nothing_follows, sets_are, spans_later}
 
 -- ---- both services
 

@@ -1,9 +1,9 @@
 -- Lemmas: the gauges of texts and of names are exact. Some value has fragments and tags exactly if each fragment fits,
 -- and a length that is left reaches the ends of the tags.
 use Rattle.std.proofs.lemmas.Bool.Decides.{nat_tests}
-use Rattle.std.proofs.Common.{◌≡◌, ◌⊎◌, ◌+◌, ◌*◌, ◌/◌, ◌%◌, ◌^◌, ◌<◌, ◌≤◌, ◌++◌, ℕ, zero, suc, Bool, true}
-use Rattle.std.proofs.Common.{◌-◌, nat_eq, false, List, [], ◌∷◌, length, slice_index, get_or, Option, Some, None, refl}
-use Rattle.std.proofs.Common.{sym, ap, ◌∙◌, subst, inl, inr, arith}
+use Rattle.std.proofs.Common.{◌≡◌, ◌⊎◌, ◌+◌, ◌*◌, ◌/◌, ◌%◌, ◌^◌, ◌<◌, ◌≤◌, ◌++◌, ℕ, zero, suc, Bool, true, ◌-◌, nat_eq}
+use Rattle.std.proofs.Common.{false, List, [], ◌∷◌, length, slice_index, get_or, Option, Some, None, refl, sym, ap, ◌∙◌}
+use Rattle.std.proofs.Common.{subst, inl, inr, arith}
 use Rattle.std.specs.Prelude.{bit_and, replicate}
 use Rattle.std.specs.Int.{bit_at}
 use Rattle.std.specs.List.{AllByRecursion}
@@ -17,20 +17,17 @@ use Rattle.rds_assembly.specs.Body.{name_body, segment_count, segment_of, text_b
 use Rattle.rds_assembly.specs.Value.{IsName, IsText, is_text_byte}
 use Rattle.rds_receiver.specs.declared.fragment.Fragment.{Fragment}
 use Rattle.rds_safety.specs.Lawful.{IsFragmentOf, IsPaddedFragmentOf}
-use Rattle.rds_safety.proofs.Bodies.{segment_byte, segment_fits, segment_long, text_below, text_end, text_few, text_fits}
-use Rattle.rds_safety.proofs.Bodies.{text_full, text_long, text_past}
+use Rattle.rds_safety.proofs.Padded.{segment_byte, segment_fits, segment_long, text_below, text_end, text_few}
+use Rattle.rds_safety.proofs.Padded.{text_fits, text_full, text_long, text_past}
 use Rattle.rds_audit.specs.Reigns.{SentTags}
 use Rattle.rds_audit.specs.declared.text_form.TextForm.{TextForm}
-use Rattle.rds_audit.specs.Lengths.{Gauge, IsExact, IsFormed, all_fit, allows, gauge_of, holds, in_name}
-use Rattle.rds_audit.specs.Lengths.{in_padded_text, in_text, left_or}
-use Rattle.rds_audit.specs.Lengths.{lengths_of, limit_at, limit_from, may_stand, measure, name_gauge}
+use Rattle.rds_audit.specs.Lengths.{Gauge, IsExact, IsFormed, all_fit, allows, gauge_of, holds, in_name, in_padded_text}
+use Rattle.rds_audit.specs.Lengths.{in_text, left_or, lengths_of, limit_at, limit_from, may_stand, measure, name_gauge}
 use Rattle.rds_audit.specs.Lengths.{padded_gauge, sent_cells, sent_last, tag_end, tags_end, text_gauge, those}
-use Rattle.rds_audit.proofs.LengthSets.{below_end, bit_past, bit_those, from_end, some_left}
+use Rattle.rds_audit.proofs.LengthSets.{below_end, bit_past, bit_those, from_end, some_left, measure_held}
+use Rattle.rds_audit.proofs.LengthSets.{measure_other, measured_less}
 use Rattle.rds_audit.specs.declared.audited.Measured.{Measured}
-use Rattle.rds_audit.proofs.Measures.{measure_held, measure_other, measured_less}
-use Rattle.rds_audit.proofs.Members.{IsIn, all_in}
-use Rattle.rds_audit.proofs.SentCells.{cell_from, cells_sent}
-use Rattle.rds_audit.proofs.SpanOrder.{bytes_same, same_bytes_are}
+use Rattle.rds_audit.proofs.SpanOrder.{IsIn, all_in, cell_from, cells_sent, bytes_same, same_bytes_are}
 
 -- ---- tags
 

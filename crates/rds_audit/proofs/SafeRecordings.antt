@@ -28,10 +28,9 @@ use Rattle.rds_audit.specs.Recording.{from_first_text, judged_as, preceded}
 use Rattle.rds_audit.specs.declared.log_start.LogStart.{LogStart}
 use Rattle.rds_audit.specs.declared.log_start.LogStart.TheVariants.{Running}
 use Rattle.rds_audit.specs.Rules.{LogPasses}
-use Rattle.rds_audit.proofs.FirstTexts.{after_text, sent_from_first_text, sent_later, settled, tags_are_of_the_log}
-use Rattle.rds_audit.proofs.FirstTexts.{text_before}
-use Rattle.rds_audit.proofs.Settled.{HeardText, TagsCount, counts, held_same, names_same, settle, settle_long}
-use Rattle.rds_audit.proofs.Settled.{texts_same, was_heard_as}
+use Rattle.rds_audit.proofs.Settled.{after_text, sent_from_first_text, sent_later, settled, tags_are_of_the_log}
+use Rattle.rds_audit.proofs.Settled.{text_before, HeardText, TagsCount, counts, held_same, names_same, settle}
+use Rattle.rds_audit.proofs.Settled.{settle_long, texts_same, was_heard_as}
 
 -- ---- origins n slots later
 

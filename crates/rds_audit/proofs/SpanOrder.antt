@@ -1,15 +1,53 @@
 -- Lemmas: the slots of spans, and the same bytes.
-use Rattle.std.proofs.lemmas.Bool.Decides.{nat_tests}
-use Rattle.std.proofs.Common.{◌≡◌, ◌+◌, ◌<◌, ◌≤◌, ℕ, suc, Bool, true, false, nat_lt, List, [], ◌∷◌, length, refl, arith}
+use Rattle.std.proofs.Common.{◌≡◌, ◌⊎◌, List, [], ◌∷◌, inl, inr, sym, subst, ℕ, true, nat_eq, Option, Some, None, refl}
+use Rattle.std.proofs.Common.{◌∙◌, arith, ◌<◌, length, get_or, ◌+◌, ◌≤◌, suc, Bool, false, nat_lt}
+use Rattle.std.specs.List.{AllByRecursion}
+use Rattle.std.proofs.lemmas.Bool.Decides.{nat_tests, eqb_tells}
+use Rattle.std.proofs.lemmas.List.{get_or-replicate, get_or-set_other, get_or-set_same, length-set}
+use Rattle.rds_receiver.specs.declared.fragment.Fragment.{Fragment}
+use Rattle.rds_audit.specs.Lengths.{sent_cells, sent_last, Gauge, changes, same_bytes}
 use Rattle.std.proofs.lemmas.Bool.{cond_both, ltb-false}
 use Rattle.rds_fields.specs.Tag.{PairFields}
-use Rattle.rds_receiver.specs.declared.fragment.Fragment.{Fragment}
 use Rattle.rds_receiver.specs.Run.{is_same}
-use Rattle.rds_audit.specs.Lengths.{Gauge, changes, same_bytes}
 use Rattle.rds_audit.specs.Listing.{Span, joined, span_with, spans, spans_after, spans_tagged, turned}
 use Rattle.rds_audit.specs.Reigns.{Reign, opened_from}
 use Rattle.rds_safety.specs.Marks.{Mark}
-use Rattle.rds_audit.proofs.SentCells.{same_number}
+
+-- ---- the members of a list
+
+abbrev pub IsIn : {X : Type 0} → X → List X → Type 0
+IsIn x [] = ⊥
+IsIn x (y ∷ ys) = (x ≡ y) ⊎ IsIn x ys
+
+-- a property of all is one of each member
+pub all_in : {X : Type 0} (P : X → Type 0) (x : X) (ys : List X) → AllByRecursion P ys → IsIn x ys → P x
+all_in P x [] a i = absurd i
+all_in P x (y ∷ ys) a (inl e) = subst P (sym e) a.0
+all_in P x (y ∷ ys) a (inr i) = all_in P x ys a.1 i
+
+-- ---- the bytes that fragments have at an address
+
+-- a number equals itself
+pub same_number : (n : ℕ) → nat_eq n n ≡ true
+same_number n = grind arith
+
+-- the bytes at an address are those of one of the fragments
+pub cell_from : (fragments : List Fragment) (a : ℕ) (s : List ℕ) → sent_last a fragments ≡ Some s
+    → (p : Fragment) × IsIn p fragments × (p.address ≡ a) × (p.bytes ≡ s)
+cell_from [] a s e = absurd (cc)
+cell_from (q ∷ older) a s e = grind (arith, nat_tests, cell_from older a s)
+
+-- there is a cell for each address
+pub cells_long : (fragments : List Fragment) → length (sent_cells fragments) ≡ 16
+cells_long [] = refl
+cells_long (p ∷ older) = length-set (sent_cells older) p.address (Some p.bytes) ∙ cells_long older
+
+-- the cell at an address has what was sent last
+pub cells_sent : (fragments : List Fragment) (a : ℕ) → a < 16
+    → get_or (sent_cells fragments) a None ≡ sent_last a fragments
+cells_sent [] a less = get_or-replicate {A = Option (List ℕ)} 16 a None None less
+cells_sent (p ∷ older) a less =
+    grind (arith, nat_tests, cells_sent older a less, eqb_tells, get_or-set_same, cells_long, get_or-set_other)
 
 -- ---- the slots of spans
 

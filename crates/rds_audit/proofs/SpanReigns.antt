@@ -11,16 +11,14 @@ use Rattle.rds_safety.specs.Flags.{is_other_flag, is_same_flag, same_or_other}
 use Rattle.rds_safety.specs.Lawful.{Kind}
 use Rattle.rds_safety.specs.Marks.{Mark, Nothing, Sends, Tagged}
 use Rattle.rds_audit.specs.declared.fault_set.FaultSet.{FaultSet}
-use Rattle.rds_audit.specs.Lengths.{Gauge, IsExact, IsFormed, changes, is_past, lengths_of}
-use Rattle.rds_audit.specs.Lengths.{tags_end}
+use Rattle.rds_audit.specs.Lengths.{Gauge, IsExact, IsFormed, changes, is_past, lengths_of, tags_end}
 use Rattle.rds_audit.specs.Listing.{Span, added, broken_by, broken_newest, first_of_span, fits, joined, none_broken}
 use Rattle.rds_audit.specs.Listing.{reigns_of, span_with, spans, spans_after, spans_tagged, turned}
 use Rattle.rds_audit.specs.ListingLaws.{IsFormedMark}
-use Rattle.rds_audit.specs.Reigns.{Reign, SentTags, after_fragment, after_tags, reigns}
-use Rattle.rds_audit.specs.Reigns.{opened_from, with_fragment, with_tags}
+use Rattle.rds_audit.specs.Reigns.{Reign, SentTags, after_fragment, after_tags, reigns, opened_from, with_fragment}
+use Rattle.rds_audit.specs.Reigns.{with_tags}
 use Rattle.rds_audit.specs.Rules.{CanBeBroadcast, HaveOneValue, IsAfterFragment, Passes}
-use Rattle.rds_audit.proofs.Keeping.{AreKept, Keeps, keeps}
-use Rattle.rds_audit.proofs.Sending.{TagsAreAfter, after_later, early, sent_before}
+use Rattle.rds_audit.proofs.Keeping.{AreKept, Keeps, keeps, TagsAreAfter, after_later, early, sent_before}
 use Rattle.rds_audit.proofs.SpanSteps.{sets_are}
 
 -- ---- a service that passes passed before its newest mark

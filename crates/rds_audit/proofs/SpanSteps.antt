@@ -1,34 +1,176 @@
 -- Lemmas: the state of a service from slot to slot, as a list of faults keeps it.
-use Rattle.std.proofs.Common.{◌≡◌, ◌+◌, ◌*◌, ◌-◌, ◌^◌, ◌<◌, ◌≤◌, ◌&&◌, ◌||◌, not, min, ℕ, zero, suc, Bool, true, false}
-use Rattle.std.proofs.Common.{nat_lt, List, [], ◌∷◌, Some, None, length, ap, cond, refl, sym, ◌∙◌, inl, inr, arith, get_or}
-use Rattle.std.specs.Prelude.{replicate}
-use Rattle.std.specs.List.{list_any}
-use Rattle.std.proofs.lemmas.Bool.{le-ltb}
-use Rattle.rds_fields.specs.Tag.{PairFields}
-use Rattle.rds_receiver.specs.declared.fragment.Fragment.{Fragment}
-use Rattle.rds_safety.specs.Flags.{is_other_flag, is_same_flag, same_or_other}
-use Rattle.rds_safety.specs.Marks.{Mark, Nothing, Sends, Tagged}
-use Rattle.rds_audit.specs.declared.log_start.LogStart.{LogStart}
-use Rattle.rds_audit.specs.declared.fault_set.FaultSet.{FaultSet}
-use Rattle.rds_audit.specs.Ages.{Ages, HoldsAges, Joins, age_of_newest, aged, ages_at}
-use Rattle.rds_audit.specs.AuditAt.{FollowsFrom, HoldsNewestSpans, HoldsSpans, content_of}
 use Rattle.std.proofs.lemmas.Bool.Decides.{nat_tests}
-use Rattle.rds_audit.proofs.SentCells.{cells_long, cells_sent}
+use Rattle.std.proofs.Common.{◌≡◌, ℕ, zero, suc, Bool, true, false, List, [], ◌∷◌, Option, Some, None, length, refl, ap}
+use Rattle.std.proofs.Common.{inl, inr, arith, ◌<◌, get_or, set, sym, ◌+◌, ◌-◌, ◌≤◌, min, not, ◌&&◌, ◌↔◌, IsTrue, ◌∙◌}
+use Rattle.std.proofs.Common.{◌*◌, ◌^◌, ◌||◌, nat_lt, cond}
+use Rattle.std.specs.Prelude.{replicate}
+use Rattle.rds_fields.specs.declared.message.Message.{Message}
+use Rattle.rds_fields.specs.declared.message.Message.TheVariants.{Text, Name, Announce, Tags, Other}
+use Rattle.rds_fields.specs.Tag.{PairFields}
+use Rattle.rds_safety.specs.Marks.{IsMarkIn, Mark, Nothing, Tagged, marks, name_mark, text_mark, Sends}
+use Rattle.rds_audit.specs.declared.log_start.LogStart.{LogStart}
+use Rattle.rds_audit.specs.declared.log_start.LogStart.TheVariants.{Complete, Running}
+use Rattle.rds_audit.specs.Recording.{counted_as, from_first_text, has_text, judged_as, silent_as}
+use Rattle.rds_audit.specs.Reigns.{reigns, AlternateFlags, Reign, SentTags}
+use Rattle.rds_audit.specs.Rules.{Passes}
+use Rattle.rds_safety.specs.Lawful.{Kind}
+use Rattle.std.specs.List.{AllByRecursion, list_any}
+use Rattle.rds_receiver.specs.declared.fragment.Fragment.{Fragment}
+use Rattle.rds_receiver.specs.Run.{is_same}
+use Rattle.rds_audit.specs.Ages.{Ages, HoldsAges, Joins, aged, restarted, age_of_newest, ages_at}
+use Rattle.std.proofs.lemmas.Bool.{le-ltb}
+use Rattle.rds_safety.specs.Flags.{is_other_flag, is_same_flag, same_or_other}
+use Rattle.rds_audit.specs.declared.fault_set.FaultSet.{FaultSet}
+use Rattle.rds_audit.specs.AuditAt.{FollowsFrom, HoldsNewestSpans, HoldsSpans, content_of}
+use Rattle.rds_audit.proofs.SpanOrder.{cells_long, cells_sent, AreInOrder, bytes_same, in_order}
 use Rattle.rds_audit.specs.ReignsState.{ContentState, cell_at, changes_in, no_content}
-use Rattle.rds_audit.specs.Lengths.{Gauge, IsFormed, all_fit, changes, is_past, measured_after}
-use Rattle.rds_audit.specs.Lengths.{sent_cells, sent_last, tags_end}
-use Rattle.rds_audit.proofs.LengthSets.{past_further, past_less}
-use Rattle.rds_audit.proofs.Measures.{measured_again, measured_less, not_past}
+use Rattle.rds_audit.specs.Lengths.{Gauge, IsFormed, all_fit, changes, is_past, measured_after, sent_cells, sent_last}
+use Rattle.rds_audit.specs.Lengths.{tags_end}
+use Rattle.rds_audit.proofs.LengthSets.{past_further, past_less, measured_again, measured_less, not_past}
 use Rattle.rds_audit.specs.Listing.{Span, added, broken_by, broken_newest, due_after, first_of_span, is_tagged, joined}
 use Rattle.rds_audit.specs.Listing.{none_broken, not_before, reigns_of, span_with, spans, spans_after, spans_tagged}
 use Rattle.rds_audit.specs.Listing.{turned}
-use Rattle.rds_audit.specs.AuditState.{SpansState, began_before, comes_early, is_turned}
-use Rattle.rds_audit.specs.AuditState.{judged_fragment, opened_in, put_in, repeated_in, tagged_in}
-use Rattle.rds_audit.specs.Recording.{silent_as}
-use Rattle.rds_audit.proofs.AgeSteps.{AreOver, ages_begun, ages_later, ages_renewed, joins_near, none_joins}
-use Rattle.rds_audit.proofs.HeldAgain.{set_held}
-use Rattle.rds_audit.proofs.Recordings.{silent_length}
-use Rattle.rds_audit.proofs.SpanOrder.{AreInOrder, bytes_same, in_order}
+use Rattle.rds_audit.specs.AuditState.{SpansState, began_before, comes_early, is_turned, judged_fragment, opened_in}
+use Rattle.rds_audit.specs.AuditState.{put_in, repeated_in, tagged_in}
+
+-- ---- before the first slot
+
+silent_texts : (lost : ℕ) → marks text_mark (from_first_text (replicate lost None)) ≡ replicate lost Nothing
+silent_texts zero = refl
+silent_texts (suc n) = ap (λ (sent : List Mark). Nothing ∷ sent) (silent_texts n)
+
+silent_names : (lost : ℕ) → marks name_mark (from_first_text (replicate lost None)) ≡ replicate lost Nothing
+silent_names zero = refl
+silent_names (suc n) = ap (λ (sent : List Mark). Nothing ∷ sent) (silent_names n)
+
+-- what is judged before the first slot is silent
+pub texts_begin : (start : LogStart) (d : ℕ) → marks text_mark (judged_as start d []) ≡ silent_as start d
+texts_begin start d = grind (arith, nat_tests, silent_texts)
+
+-- before the first slot no name is judged
+pub names_begin : (start : LogStart) (d : ℕ) → marks name_mark (judged_as start d []) ≡ silent_as start d
+names_begin start d = grind (arith, nat_tests, silent_names)
+
+pub silent_reigns : (d lost : ℕ) → reigns d (replicate lost Nothing) ≡ []
+silent_reigns d zero = refl
+silent_reigns d (suc n) = silent_reigns d n
+
+-- as many slots are silent as were lost
+pub silent_length : (lost : ℕ) → length (replicate lost Nothing) ≡ lost
+silent_length zero = refl
+silent_length (suc n) = let e = silent_length n in omega arith
+
+no_tags : (lost t : ℕ) (pair : PairFields) → IsMarkIn (replicate lost Nothing) t (Tagged pair) → ⊥
+no_tags zero t pair h = h
+no_tags (suc n) t pair (inl s) = (let none = s.1 in cc)
+no_tags (suc n) t pair (inr s) = no_tags n t pair s
+
+-- what is silent passes
+silence : (kind : Kind) (d lost : ℕ) → Passes d kind (replicate lost Nothing)
+silence kind d lost = grind (arith, nat_tests, silent_reigns, no_tags)
+
+-- silence passes
+pub silent_passes : (kind : Kind) (start : LogStart) (d : ℕ) → Passes d kind (silent_as start d)
+silent_passes kind Complete d = silence kind d 0
+silent_passes kind Running d = silence kind d d
+
+-- ---- from slot to slot
+
+-- tags count after a text segment, and not before
+pub tags_count : (start : LogStart) (judged : List (Option Message)) (pair : PairFields) → has_text judged ≡ true
+    → counted_as start judged (Some (Tags pair)) ≡ Some (Tags pair)
+tags_count start judged pair e = grind (arith, nat_tests)
+
+tags_wait : (start : LogStart) (judged : List (Option Message)) (pair : PairFields) → start ≡ Running
+    → has_text judged ≡ false → counted_as start judged (Some (Tags pair)) ≡ None
+tags_wait start judged pair is e = rw (is, e) refl
+
+-- in a complete log all tags count
+pub tags_complete : (start : LogStart) (judged : List (Option Message)) (pair : PairFields) → start ≡ Complete
+    → counted_as start judged (Some (Tags pair)) ≡ Some (Tags pair)
+tags_complete start judged pair is = rw is refl
+
+-- all others count as they are
+pub text_counts : (start : LogStart) (judged : List (Option Message)) (f : Bool) (a : ℕ) (b : List ℕ)
+    → counted_as start judged (Some (Text f a b)) ≡ Some (Text f a b)
+text_counts start judged f a b = grind (arith, nat_tests)
+
+-- segments of names count in each log
+pub name_counts : (start : LogStart) (judged : List (Option Message)) (f : Bool) (a : ℕ) (b : List ℕ)
+    → counted_as start judged (Some (Name f a b)) ≡ Some (Name f a b)
+name_counts start judged f a b = grind (arith, nat_tests)
+
+-- these count for neither service
+abbrev pub IsSilent : Option Message → Type 0
+IsSilent message = (text_mark message ≡ Nothing) × (name_mark message ≡ Nothing)
+
+-- an empty slot counts as silent
+pub nothing_counts : (start : LogStart) (judged : List (Option Message)) → IsSilent (counted_as start judged None)
+nothing_counts start judged = grind (arith, nat_tests)
+
+-- in a recording tags before the first text count as silent
+pub tags_silent : (start : LogStart) (judged : List (Option Message)) (pair : PairFields) → start ≡ Running
+    → has_text judged ≡ false → IsSilent (counted_as start judged (Some (Tags pair)))
+tags_silent start judged pair is e = rw (tags_wait start judged pair is e) (refl, refl)
+
+-- an announcement counts as silent
+pub announcement_counts : (start : LogStart) (judged : List (Option Message)) (code bits aid : ℕ)
+    → IsSilent (counted_as start judged (Some (Announce code bits aid)))
+announcement_counts start judged code bits aid = grind (arith, nat_tests)
+
+-- another message counts as silent
+pub other_counts : (start : LogStart) (judged : List (Option Message)) → IsSilent (counted_as start judged (Some Other))
+other_counts start judged = grind (arith, nat_tests)
+
+-- ---- a segment that the reign has already changes nothing but the age of the reign
+
+-- an element replaced by itself
+pub set_held : {A : Type 0} (l : List A) (i : ℕ) (x d : A) → i < length l → get_or l i d ≡ x → set l i x ≡ l
+set_held [] i x d h e = absurd (omega (arith, h))
+set_held (y ∷ l) zero x d h e = ap (λ z. z ∷ l) (sym e)
+set_held (y ∷ l) (suc i) x d h e = ap (λ r. y ∷ r) (set_held l i x d (omega (arith, h)) e)
+
+-- ---- how the ages change with the reigns
+
+-- each reign ended before this slot
+abbrev pub AreOver : ℕ → List Reign → Type 0
+AreOver now rs = AllByRecursion (λ (r : Reign). (r.start ≤ r.last) × (r.last < now)) rs
+
+-- more of the newest reign was sent now
+pub ages_renewed : (d now opened : ℕ) (fragments : List Fragment) (tags : List SentTags) (r : Reign)
+    (older : List Reign) (a : Ages) → HoldsAges d now (r ∷ older) a
+    → HoldsAges d now (record {
+      start = r.start;
+      opened = opened;
+      last = now;
+      flag = r.flag;
+      fragments = fragments;
+      tags = tags;
+    } ∷ older) record a { since_last = 0 }
+ages_renewed d now opened fragments tags r older a h = grind (arith, nat_tests)
+
+-- a fragment of this flag joins the newest reign
+pub joins_near : (d now : ℕ) (flag : Bool) (r : Reign) (older : List Reign) (a : Ages) → HoldsAges d now (r ∷ older) a
+    → Joins d flag a → (r.flag ≡ flag) × (now < r.last + d)
+joins_near d now flag r older a h g = (sym h.current.1 ∙ sym g.0, omega (arith, h.newest, g.1))
+
+-- before the first reign none joins
+pub none_joins : (d now : ℕ) (flag : Bool) (a : Ages) → HoldsAges d now [] a → Joins d flag a → ⊥
+none_joins d now flag a h g = omega (arith, h.newest, g.1)
+
+opened_turns : (d now : ℕ) (q : Reign) (rs : List Reign) (a : Ages) → HoldsAges d now rs a
+    → IsTrue (a.turns && not (a.is_open && is_same q.flag a.flag)) ↔ AlternateFlags (q ∷ rs)
+opened_turns d now q rs a h = grind (arith, nat_tests)
+
+-- the ages once a reign was opened that started n slots ago
+pub ages_begun : (d now n : ℕ) (q : Reign) (rs : List Reign) (a : Ages) → q.last ≡ now → n ≡ min (now - q.start) d
+    → HoldsAges d now rs a → HoldsAges d now (q ∷ rs) record (restarted n q.flag a) { since_last = 0 }
+ages_begun d now n q rs a last start h = grind (arith, nat_tests, opened_turns)
+
+-- one slot older
+pub ages_later : (d now : ℕ) (rs : List Reign) (a : Ages) → AreOver (now + 1) rs → HoldsAges d now rs a
+    → HoldsAges d (now + 1) rs (aged d a)
+ages_later d now rs a over h = grind (arith, nat_tests)
 
 -- ---- the rules that a span breaks
 

@@ -61,7 +61,7 @@ pub fn passes_without_a_fault()
 /// States a promise to receivers with the flag bit alone: if the flag of a log that passes turns from each reign to the
 /// next, and they hear a segment of each reign, they show only texts, names and tags of the plans. The flag always
 /// turns so if each segment except the first comes less than d slots after a segment or tags.
-#[tactic(auto, using(crate::proofs::FlagLogs::safe_by_flag, crate::proofs::FlagLogs::alternate))]
+#[tactic(auto, using(crate::proofs::PassedLogs::safe_by_flag, crate::proofs::PassedLogs::alternate))]
 pub fn what_passes_is_safe_by_the_flag()
     ensures safe { WhatPassesIsSafeByTheFlag }
     ensures without_pause { WithoutPauseFlagsAlternate }

@@ -121,7 +121,7 @@ impl Audit {
 
     /// Takes the group of this slot, if it is one of the programme.
     #[inline(always)]
-    #[tactic(auto, using(crate::proofs::ListingSteps::nothing_listed, crate::proofs::Recordings::nothing_counts))]
+    #[tactic(auto, using(crate::proofs::ListingSteps::nothing_listed, crate::proofs::SpanSteps::nothing_counts))]
     fn hear_group(&mut self, group: Option<Blocks>) -> FaultSet
         ensures keeps { KeepsLog self.old self.new }
         ensures fault { fault_of self.new ≡ fault_of self.old }

@@ -77,6 +77,7 @@ fn shown_character(byte: u8) -> Option<char>
 }
 
 /// Returns the hexadecimal digit of a number below 16, with A to F for 10 to 15.
+#[tactic(auto, using(std::proofs::lemmas::Grind::common_steps))]
 fn upper_digit(number: u8) -> u8
     requires { number < 16 }
     ensures { result ≡ upper_digit number }

@@ -86,6 +86,7 @@ pub fn measure_text(text: &str) -> Result<usize, BadCharacter>
 }
 
 /// Counts the characters of a text.
+#[tactic(auto, using(std::proofs::lemmas::Str::chars_from_encodes))]
 fn count_characters(text: &str) -> usize
     ensures { result ≡ length (chars text.now) }
 {

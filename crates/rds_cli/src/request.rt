@@ -157,6 +157,7 @@ fn parse<'a>(alloc: Global, words: &'a [&'a str]) -> Result<Option<Request<'a>>,
 }
 
 /// Reads a subcommand and its options.
+#[tactic(auto, using(std::proofs::lemmas::Bool::Decides::nat_tests))]
 fn request_of<'a>(name: &'a str, inner: &ArgMatches<'a>) -> Option<Request<'a>>
     ensures { option_map asked_by result ≡ asked_of (name.entry.now, rows_of (found_of inner.now)) }
 {

@@ -1,7 +1,7 @@
 -- Lemmas: a text on air is sent whole in twice as many free slots as it has segments, and a name in eight.
 use Rattle.std.proofs.lemmas.Bool.Decides.{nat_tests}
-use Rattle.std.proofs.Common.{◌≡◌, ℕ, ◌+◌, ◌*◌, ◌/◌, ◌%◌, ◌<◌, ◌≤◌, List, [], ◌∷◌, ◌++◌, Bool, true}
-use Rattle.std.proofs.Common.{Some, refl, ap, ◌∙◌, inl, inr, arith}
+use Rattle.std.proofs.Common.{◌≡◌, ℕ, ◌+◌, ◌*◌, ◌/◌, ◌%◌, ◌<◌, ◌≤◌, List, [], ◌∷◌, ◌++◌, Bool, true, Some, refl, ap}
+use Rattle.std.proofs.Common.{◌∙◌, inl, inr, arith}
 use Rattle.std.specs.Prelude.{◌==◌}
 use Rattle.std.proofs.lemmas.Bool.{cases_lt, le-leb}
 use Rattle.std.proofs.lemmas.Nat.{div-add-mod', mod-mul-add}
@@ -14,11 +14,10 @@ use Rattle.rds_encoder.specs.Delivery.{IsOnThroughout, IsSentAmong, free_in}
 use Rattle.rds_encoder.specs.Entries.{Entry, Tick, Move, name_moves, restart_before, slot_of, text_moves}
 use Rattle.rds_encoder.specs.Plan.{OnAir, on_air}
 use Rattle.rds_encoder.specs.Round.{turn_in}
-use Rattle.rds_encoder.specs.Sent.{count_from, is_text_turn, is_turn, one_if, sent_at_turn, sent_in}
-use Rattle.rds_encoder.specs.Sent.{text_segment, turn_of}
+use Rattle.rds_encoder.specs.Sent.{count_from, is_text_turn, is_turn, one_if, sent_at_turn, sent_in, text_segment}
+use Rattle.rds_encoder.specs.Sent.{turn_of}
 use Rattle.rds_encoder.proofs.OnAir.{air_since}
-use Rattle.rds_encoder.proofs.Replies.{same_restart, same_slot}
-use Rattle.rds_encoder.proofs.Turns.{even_is_text}
+use Rattle.rds_encoder.proofs.Turns.{same_restart, same_slot, even_is_text}
 
 -- one of n numbers in a row has the remainder a
 one_of_rest : (n first a : ℕ) → a < n → (j : ℕ) × (first ≤ j) × (j < first + n) × (j % n ≡ a)

@@ -1,13 +1,7 @@
-pub mod OnAir
-pub mod Replies
-pub mod Pairs
 pub mod Turns
-pub mod Sets
-pub mod Groups
-pub mod Covered
 pub mod WorkedRows
 pub mod Numbers
 pub mod Spacing
-pub mod Lasting
+pub mod OnAir
 pub mod Sending
 pub mod Delivering

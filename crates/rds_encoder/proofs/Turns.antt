@@ -1,25 +1,37 @@
 -- Lemmas about one more slot that ended: the state of the encoder follows from the longer list.
-use Rattle.std.proofs.Common.{◌≡◌, ◌≢◌, ℕ, ◌+◌, ◌-◌, ◌%◌, ◌<◌, ◌≤◌, List, [], ◌∷◌, Bool, true, false, nat_le}
-use Rattle.std.proofs.Common.{Option, Some, refl, arith, option_map, ◌⊎◌}
-use Rattle.std.specs.Prelude.{◌&&◌, ◌↔◌}
-use Rattle.std.proofs.Math.Nat.{suc-mod}
-use Rattle.rds_encoder.proofs.OnAir.{air_since}
+use Rattle.std.proofs.Common.{◌≡◌, ◌≢◌, ℕ, ◌+◌, ◌-◌, ◌%◌, ◌<◌, ◌≤◌, List, [], ◌∷◌, Bool, true, false, nat_le, Option}
+use Rattle.std.proofs.Common.{Some, refl, arith, option_map, ◌⊎◌, None, Ok, Err, sym}
+use Rattle.std.specs.Prelude.{◌&&◌, ◌↔◌, IfSome, IsNone}
+use Rattle.std.proofs.Math.Nat.{suc-mod, zero-mod}
+use Rattle.rds_encoder.proofs.OnAir.{air_since, not_held_in_silence}
 use Rattle.std.proofs.lemmas.Bool.Decides.{nat_tests}
 use Rattle.rds_fields.specs.declared.head.Head.{Head}
-use Rattle.rds_fields.specs.Stored.{pair_stored}
+use Rattle.rds_fields.specs.Stored.{pair_stored, IsStoredPair, is_set}
 use Rattle.rds_assembly.specs.Body.{segment_count, text_body}
 use Rattle.rds_encoder.specs.declared.round.Turn.TheVariants.{Text}
-use Rattle.rds_encoder.specs.Entries.{Entry, Tick, Move, End, name_moves, slot_of, text_moves}
+use Rattle.rds_encoder.specs.Entries.{Entry, Tick, Move, End, name_moves, slot_of, text_moves, SetText, SetName, Set}
+use Rattle.rds_encoder.specs.Entries.{restart_before}
 use Rattle.rds_encoder.specs.Plan.{OnAir, bytes_of, on_air}
 use Rattle.rds_encoder.specs.Round.{turn_in}
-use Rattle.rds_encoder.specs.Sent.{count_from, is_text_turn, is_turn, next_address, turn_of}
+use Rattle.rds_encoder.specs.Sent.{count_from, is_text_turn, is_turn, next_address, turn_of, tags_due, IsSent}
 use Rattle.rds_encoder.specs.declared.encoder.Encoder.{Encoder}
 use Rattle.rds_encoder.specs.declared.hold.Hold.{Hold}
 use Rattle.rds_encoder.specs.declared.on_air.TextOnAir.{TextOnAir}
-use Rattle.rds_encoder.specs.EncoderAt.{HoldsBack, EncoderAt, silence_left, with_next}
-use Rattle.rds_encoder.specs.Numbers.{IsValidEncoder, IsValidText, head_in, name_in, text_in}
+use Rattle.rds_encoder.specs.EncoderAt.{HoldsBack, EncoderAt, silence_left, with_next, hold_left}
+use Rattle.rds_encoder.specs.Numbers.{IsValidEncoder, IsValidText, head_in, name_in, text_in, IsValidName}
 use Rattle.rds_encoder.specs.State.{TextState, advanced}
 use Rattle.rds_encoder.specs.Tags.{pair_on_air}
+use Rattle.rds_fields.specs.declared.stored.StoredPair.{StoredPair}
+use Rattle.rds_encoder.specs.Reply.{reply_to, Reply, held_for, held_reply, last_accepted, unless_silent}
+use Rattle.rds_encoder.specs.declared.on_air.NameOnAir.{NameOnAir}
+use Rattle.rds_encoder.specs.declared.reply.Refusal.{Refusal}
+use Rattle.std.specs.Result.{IsErrAnd}
+use Rattle.rds_fields.specs.declared.message.Message.TheVariants.{Tags, Other}
+use Rattle.rds_fields.specs.Tag.{PairFields}
+use Rattle.std.specs.Int.{from_bool}
+use Rattle.rds_block.specs.declared.group.Group.{Group}
+use Rattle.rds_fields.specs.Canonical.{IsWritten}
+use Rattle.rds_fields.specs.declared.message.Message.{Message}
 
 -- no slot so far is as late as slot a
 pub none_yet : (test : Bool → List Move → Bool) (a : ℕ) (moves : List Move) → slot_of moves ≤ a
@@ -119,3 +131,95 @@ pub slot_over : (station : Head) (m : ℕ) (e : Encoder) (silence : ℕ) (text_h
     → EncoderAt station m record e { silence = silence; text_hold = text_hold; name_hold = name_hold }
     (Tick free ∷ entries)
 slot_over station m e silence text_hold name_hold free entries at less text name = grind (arith, nat_tests)
+
+-- ---- one more set: the numbers of the encoder follow from the longer list
+
+-- a text that is accepted begins with its first segment
+pub text_accepted : (station : Head) (m : ℕ) (e : Encoder) (hold : Hold) (text : TextOnAir) (pair : StoredPair)
+    (entries : List Entry) (x : List ℕ) → EncoderAt station m e entries → reply_to m (text_moves entries) ≡ Ok tt
+    → HoldsBack m hold (Set x ∷ text_moves entries) → text_in text ≡ Some record { bytes = x; next = 0 }
+    → IsValidText text → pair_stored pair ≡ None → IsStoredPair pair
+    → EncoderAt station m record e { text_hold = hold; text = text; pair = pair } (SetText x ∷ entries)
+text_accepted station m e hold text pair entries x st ok back on good none good_pair =
+    grind (arith, nat_tests, none_yet, zero-mod)
+
+-- a name that is accepted
+pub name_accepted : (station : Head) (m : ℕ) (e : Encoder) (hold : Hold) (name : NameOnAir) (entries : List Entry)
+    (x : List ℕ) → EncoderAt station m e entries → reply_to m (name_moves entries) ≡ Ok tt
+    → HoldsBack m hold (Set x ∷ name_moves entries) → name_in name ≡ Some x → IsValidName name
+    → EncoderAt station m record e { name_hold = hold; name = name } (SetName x ∷ entries)
+name_accepted station m e hold name entries x st ok back on good = grind (arith, nat_tests)
+
+-- ---- replies, part by part
+
+-- after the silence, the reply is the rest of it
+pub silence_over : (m now start : ℕ) (reply : Reply) → unless_silent m now start (Ok tt) ≡ Ok tt
+    → unless_silent m now start reply ≡ reply
+silence_over m now start reply e = grind (arith, nat_tests)
+
+-- texts and names have the same slots and restarts
+pub same_slot : (entries : List Entry) → slot_of (name_moves entries) ≡ slot_of (text_moves entries)
+same_slot [] = refl
+same_slot (x ∷ before) = grind (arith, nat_tests, same_slot before)
+
+-- texts and names restart in the same slot
+pub same_restart : (entries : List Entry) → restart_before (name_moves entries) ≡ restart_before (text_moves entries)
+same_restart [] = refl
+same_restart (x ∷ before) = grind (arith, nat_tests, same_restart before, same_slot)
+
+-- the slots left of a hold are those of the reply
+pub left_of_hold : (m : ℕ) (moves : List Move)
+    → held_for (reply_to m moves) ≡ hold_left m (slot_of moves) (last_accepted m moves)
+left_of_hold m moves = grind (arith, nat_tests, not_held_in_silence)
+
+-- the reply to a name in the silence, and after it
+pub names_in_silence : (m : ℕ) (entries : List Entry) (r : Refusal)
+    → Err r ≡ unless_silent m (slot_of (text_moves entries)) (restart_before (text_moves entries)) (Ok tt)
+    → reply_to m (name_moves entries) ≡ Err r
+names_in_silence m entries r e = grind (arith, nat_tests, same_slot, same_restart)
+
+-- after the silence the reply to a name depends on the one before alone
+pub names_after_silence : (m : ℕ) (entries : List Entry)
+    → Ok tt ≡ unless_silent m (slot_of (text_moves entries)) (restart_before (text_moves entries)) (Ok tt)
+    → reply_to m (name_moves entries) ≡ held_reply m (slot_of (name_moves entries))
+    (last_accepted m (name_moves entries))
+names_after_silence m entries e = grind (arith, nat_tests, same_slot, same_restart)
+
+-- an error that is passed on is that error
+pub passed_on : (reply : Reply) (r : Refusal) → IsErrAnd reply (λ e. e ≡ r) → reply ≡ Err r
+passed_on reply r h = grind (arith, nat_tests)
+
+-- ---- a pair is on air only with a text
+
+-- without a text on air there is no pair
+pub no_pair : (m : ℕ) (entries : List Entry) → on_air m (text_moves entries) ≡ None → pair_on_air m entries ≡ None
+no_pair m [] h = refl
+no_pair m (x ∷ before) h = grind (arith, nat_tests, no_pair m before)
+
+-- a pair that is due
+pub with_pair : (m : ℕ) (entries : List Entry) (pair : PairFields) → pair_on_air m entries ≡ Some pair
+    → (air : OnAir) × (on_air m (text_moves entries) ≡ Some air)
+with_pair m entries pair h = grind (arith, nat_tests, no_pair)
+
+-- tags are due if the text has been on air for m slots
+pub due : (m now : ℕ) (on_air : Option OnAir) (told : Option PairFields) (air : OnAir) (pair : PairFields)
+    (lasted : Bool) → on_air ≡ Some air → told ≡ Some pair
+    → lasted ≡ nat_le (air.start + m) now → lasted ≡ true → Some (Tags pair) ≡ tags_due m now on_air told
+due m now on_air told air pair lasted on has test done = rw (on, has, sym test, done) refl
+
+-- ---- the message that is due, and its group
+
+-- the group of a message is sent
+pub group_sent : (station head : Head) (message : Message) (group : Option Group) → head ≡ station
+    → IfSome group (IsWritten message head)
+    → (IsNone group ↔ (message ≡ Other)) → message ≢ Other → IsSent station (Some message) group
+group_sent station head message group same written none said = grind (arith, nat_tests)
+
+-- a head by its numbers
+bit_back : (b : Bool) (n : ℕ) → n ≡ from_bool b → is_set n ≡ b
+bit_back b n e = grind (arith, nat_tests)
+
+-- the head of a group is read back
+pub head_back : (h : Head) (tp pty : ℕ) → tp ≡ from_bool h.tp → pty ≡ h.pty
+    → record { pi = h.pi; tp = is_set tp; pty = pty } ≡ h
+head_back h tp pty e f = λ i. record { pi = h.pi; tp = bit_back h.tp tp e i; pty = f i }

@@ -34,6 +34,7 @@ impl Encoder {
     }
 
     /// Returns the next segment of the text on air. `None` if no text is on air.
+    #[tactic(auto, using(std::proofs::lemmas::Bool::Decides::nat_tests))]
     fn text_segment(&self) -> Option<Message>
         ensures sent { WhereEncoderStands self.now (λ _ m entries. result
             ≡ text_segment m (text_moves entries) (on_air m (text_moves entries))) }
@@ -63,6 +64,7 @@ impl Encoder {
     }
 
     /// Returns the tags of the text on air. `None` if it has none, or has been on air for less than M + K slots.
+    #[tactic(auto, using(std::proofs::lemmas::Bool::Decides::nat_tests, crate::proofs::Turns::due, crate::proofs::Turns::with_pair))]
     fn tags_due(&self) -> Option<Message>
         ensures sent { WhereEncoderStands self.now (λ _ m entries. result
             ≡ tags_due m (slot_of (text_moves entries)) (on_air m (text_moves entries)) (pair_on_air m entries)) }

@@ -201,6 +201,7 @@ impl Encoder {
     }
 
     /// Returns for how many more slots a set would be refused, this slot included.
+    #[tactic(auto, using(std::proofs::lemmas::Bool::Decides::nat_tests, crate::proofs::Turns::left_of_hold))]
     pub fn wait(&self) -> Wait
         ensures silent { WhereEncoderStands self.now
             (λ _ m entries. result.silent ≡ silent_for (reply_to m (text_moves entries))) }

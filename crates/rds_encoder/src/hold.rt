@@ -59,6 +59,7 @@ impl Hold {
     }
 
     /// Returns the flag of the text or name on air.
+    #[tactic(auto, using(crate::proofs::OnAir::flag_on_air))]
     pub(crate) fn flag(&self) -> bool
         ensures { (m : ℕ) (moves : List Move) (air : OnAir) → HoldsBack m self.now moves
             → on_air m moves ≡ Some air → result ≡ air.flag }

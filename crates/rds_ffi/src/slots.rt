@@ -10,6 +10,7 @@ use rds_fields::{Dwell, Late};
 pub(crate) struct BadCount;
 
 /// Returns the blocks of a slot's group. `None` if the slot has none.
+#[tactic(auto, using(std::proofs::lemmas::Grind::common_steps))]
 pub(crate) fn slot_of(blocks: &[u16]) -> Result<Option<Blocks>, BadCount>
     ensures count { IsOk result ↔ IsCount blocks.now }
     ensures value { IfOk result (Bring blocks.now) }

@@ -183,6 +183,7 @@ impl Auditor {
     }
 
     /// Writes the answer `yes`.
+    #[tactic(auto, using(rds_io::proofs::Waiting::waits_more, crate::proofs::Audited::flushed))]
     pub(crate) fn write_yes<W: TellingWrite>(&self, writer: &mut W) -> Result<(), WriteFault>
         ensures { (start : W) → Waits (traffic W.contents W.failures start writer.old) [] []
             → Pushed (traffic W.contents W.failures start writer.new) [] (yes_line self.now.slots) result }

@@ -19,6 +19,7 @@ pub fn words_of(rt: &(impl Env + AllocGlobal)) -> io::Result<Vec<String>> {
 /// # Errors
 ///
 /// An error if there is no memory for the list.
+#[tactic(auto, using(std::proofs::lemmas::Grind::common_steps))]
 pub fn texts<'a>(alloc: Global, words: &'a [String]) -> Result<Vec<&'a str>, AllocError>
     ensures { IfOk result
         (λ texts. map (λ p. p.now) texts.items ≡ map string_bytes words.entry.now) }

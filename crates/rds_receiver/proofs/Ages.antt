@@ -1,6 +1,6 @@
 -- Lemmas: the ages that the plain numbers of a receiver stand for.
-use Rattle.std.proofs.Common.{◌≡◌, ◌≢◌, ◌⊎◌, ◌+◌, ◌-◌, ◌<◌, ◌≤◌, ℕ, List, ◌∷◌, Option, Some, None}
-use Rattle.std.proofs.Common.{length, ap, ◌∙◌, inl, inr, arith}
+use Rattle.std.proofs.Common.{◌≡◌, ◌≢◌, ◌⊎◌, ◌+◌, ◌-◌, ◌<◌, ◌≤◌, ℕ, List, ◌∷◌, Option, Some, None, length, ap, ◌∙◌, inl}
+use Rattle.std.proofs.Common.{inr, arith}
 use Rattle.std.specs.FinMap.{empty, get-empty, get-insert, insert}
 use Rattle.std.specs.Ordering.{nat_cmp}
 use Rattle.std.specs.Cmp.{unsigned_tied}
@@ -21,8 +21,7 @@ use Rattle.rds_receiver.specs.Holds.{HoldsAt, HoldsRun, newest_slot}
 use Rattle.rds_receiver.specs.State.{HeldSegments, DisplayState}
 use Rattle.rds_receiver.specs.Stored.{AreWithin, IsStoredDisplay, age_stored, display_stored, segments_stored}
 use Rattle.rds_receiver.specs.Tags.{pair_from}
-use Rattle.rds_receiver.proofs.Runs.{equal_or_not}
-use Rattle.rds_receiver.proofs.Steps.{name_heard}
+use Rattle.rds_receiver.proofs.Runs.{equal_or_not, name_heard}
 use Rattle.rds_receiver.specs.declared.display.StoredDisplay.{StoredDisplay}
 use Rattle.rds_receiver.specs.declared.display.StoredSegments.{StoredSegments}
 use Rattle.rds_fields.specs.declared.stored.StoredPair.{StoredPair}

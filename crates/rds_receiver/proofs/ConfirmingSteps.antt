@@ -1,6 +1,6 @@
 -- Lemmas: the state of a receiver follows from its input after each slot, with and without a window.
-use Rattle.std.proofs.Common.{◌≡◌, ◌≢◌, ◌⊎◌, ◌+◌, ◌-◌, ◌<◌, ◌≤◌, ◌&&◌, ℕ, Bool, true, false, nat_lt, List, []}
-use Rattle.std.proofs.Common.{◌∷◌, Option, Some, None, length, refl, sym, ◌∙◌, inl, inr, arith}
+use Rattle.std.proofs.Common.{◌≡◌, ◌≢◌, ◌⊎◌, ◌+◌, ◌-◌, ◌<◌, ◌≤◌, ◌&&◌, ℕ, Bool, true, false, nat_lt, List, [], ◌∷◌}
+use Rattle.std.proofs.Common.{Option, Some, None, length, refl, sym, ◌∙◌, inl, inr, arith}
 use Rattle.std.specs.Prelude.{if◌then◌else◌}
 use Rattle.std.proofs.lemmas.Bool.{cases_lt}
 use Rattle.std.proofs.lemmas.Bool.Decides.{nat_tests}
@@ -9,24 +9,22 @@ use Rattle.rds_block.specs.declared.group.Group.{Group}
 use Rattle.rds_fields.specs.declared.message.Message.{Message}
 use Rattle.rds_fields.specs.declared.message.Message.TheVariants.{Tags}
 use Rattle.rds_fields.specs.Tag.{PairFields, TagFields}
-use Rattle.rds_receiver.specs.Receipts.{Segment, Tuning, heard_of, name_fragment, name_of, segments}
+use Rattle.rds_receiver.specs.Receipts.{Segment, Tuning, heard_of, name_fragment, name_of, segments, text_fragment}
+use Rattle.rds_receiver.specs.Receipts.{text_of}
 use Rattle.rds_receiver.specs.declared.fragment.Fragment.{Fragment}
-use Rattle.rds_receiver.specs.Receipts.{text_fragment, text_of}
 use Rattle.rds_receiver.specs.Run.{begins_in, run}
 use Rattle.rds_receiver.specs.Holds.{HearsMore, HoldsAt, HoldsRun, newest_slot}
 use Rattle.rds_receiver.specs.ReceiverAt.{ReceiverAt}
 use Rattle.rds_receiver.specs.State.{DisplayState, HeldSegments, ReceiverState}
 use Rattle.rds_receiver.specs.Stored.{IsStoredReceiver, receiver_stored}
 use Rattle.rds_receiver.specs.declared.receiver.Receiver.{Receiver}
-use Rattle.rds_receiver.specs.Confirmed.{confirmed, counted_in, last_at, last_pair, pair_again, same_pair}
-use Rattle.rds_receiver.specs.Confirmed.{same_tag, segment_again}
+use Rattle.rds_receiver.specs.Confirmed.{confirmed, counted_in, last_at, last_pair, pair_again, same_pair, same_tag}
+use Rattle.rds_receiver.specs.Confirmed.{segment_again}
 use Rattle.rds_receiver.specs.ConfirmedLemmas.{confirmed_long, counted_long, newest_counted, one_pair}
 use Rattle.rds_receiver.specs.Confirming.{Counts, HasAged, HoldsBy, HoldsLast, HoldsLastPair, HoldsLasts, HoldsLastsIn}
-use Rattle.rds_receiver.specs.Confirming.{LastSegment, RepeatsSegment, cell_in, one_slot_older}
-use Rattle.rds_receiver.specs.Confirming.{pair_left_of, text_begins}
-use Rattle.rds_receiver.proofs.Pairs.{AllBelow, run_below, segments_below}
-use Rattle.rds_receiver.proofs.Runs.{equal_or_not, same_is}
-use Rattle.rds_receiver.proofs.Steps.{nothing_heard}
+use Rattle.rds_receiver.specs.Confirming.{LastSegment, RepeatsSegment, cell_in, one_slot_older, pair_left_of}
+use Rattle.rds_receiver.specs.Confirming.{text_begins}
+use Rattle.rds_receiver.proofs.Runs.{AllBelow, run_below, segments_below, equal_or_not, same_is, nothing_heard}
 
 -- a test that is not true
 pub not_true : (b : Bool) → b ≡ false → b ≡ true → ⊥

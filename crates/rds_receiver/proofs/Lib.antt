@@ -1,6 +1,4 @@
 pub mod Runs
-pub mod Pairs
-pub mod Steps
 pub mod Longest
 pub mod Shows
 pub mod WorkedRows

@@ -14,6 +14,7 @@ use rds_assembly::{LONGEST_TEXT, Service, has_segment, hold, whole};
 
 impl StoredSegments {
     /// Makes a `StoredSegments` without segments.
+    #[tactic(auto, using(rds_assembly::proofs::HeldLemmas::nothing_held))]
     pub(crate) fn none() -> StoredSegments
         ensures cells { held_cells result.mask result.bytes ≡ empty }
         ensures mask { result.mask ≡ 0 }
@@ -27,6 +28,7 @@ impl StoredSegments {
     }
 
     /// Drops the segments if they are due in the slot of a look. Returns whether a whole value was dropped.
+    #[tactic(auto, using(std::proofs::lemmas::Bool::Decides::nat_tests, rds_assembly::proofs::HeldLemmas::nothing_held, crate::proofs::Alike::nothing_alike))]
     pub(crate) fn drop_if_due<S: Service>(&mut self) -> bool
         ensures later { 0 < self.old.later → self.new ≡ self.old }
         ensures due { self.old.later ≡ 0 → self.new ≡ record self.old { mask = 0 } }
@@ -70,6 +72,7 @@ impl StoredSegments {
     /// Takes a segment that may not be held yet.
     // Cold path.
     #[inline(never)]
+    #[tactic(auto, using(std::proofs::lemmas::Bool::Decides::nat_tests, rds_assembly::proofs::HeldLemmas::nothing_held))]
     fn add<S: Service>(&mut self, fragment: Fragment) -> bool
         requires { fragment.address < 16 }
         ensures same { fragment.flag ≡ is_set self.old.flag → held_cells self.new.mask self.new.bytes

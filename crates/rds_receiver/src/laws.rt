@@ -8,6 +8,7 @@ ghost use Rattle.rds_receiver.specs.Shown.{IsView, ShownView};
 
 /// States that the run is the longest last part of the received segments that is chained: with one flag, with
 /// neighbours less than the dwell apart, and with the newest one less than the dwell ago.
+#[tactic(auto, using(crate::proofs::Longest::run_chained, crate::proofs::Longest::run_last, crate::proofs::Longest::run_longest))]
 pub fn run_is_the_longest()
     ensures last { (m t : ℕ) (segments : List Segment)
         → (older : List Segment) × (segments ≡ run m t segments ++ older) }

@@ -1,7 +1,7 @@
 -- Lemmas: the confirmed messages are near the log, although they may come out of order, since of the two receipts of a
 -- segment or a pair of tags one was sent.
-use Rattle.std.proofs.Common.{◌≡◌, ◌+◌, ◌-◌, ◌<◌, ◌≤◌, ◌&&◌, ℕ, Bool, true, false, List, [], ◌∷◌, length, cond}
-use Rattle.std.proofs.Common.{Option, Some, None, refl, sym, ◌∙◌, inl, inr, arith}
+use Rattle.std.proofs.Common.{◌≡◌, ◌+◌, ◌-◌, ◌<◌, ◌≤◌, ◌&&◌, ℕ, Bool, true, false, List, [], ◌∷◌, length, cond, Option}
+use Rattle.std.proofs.Common.{Some, None, refl, sym, ◌∙◌, inl, inr, arith}
 use Rattle.std.specs.Prelude.{nat_lt}
 use Rattle.std.specs.List.{AllByRecursion}
 use Rattle.std.proofs.lemmas.Bool.Decides.{nat_tests}
@@ -22,8 +22,7 @@ use Rattle.rds_safety.specs.OwnClock.{next_slot}
 use Rattle.rds_safety.specs.Safe.{Listener}
 use Rattle.rds_safety.specs.Confirmed.{IsHeardWithWrong, NoWrongConfirmed, ListensConfirmed, confirmed_input}
 use Rattle.rds_safety.specs.Confirmed.{lateness_of_two, origin_in, origin_of_two, origins_of_two}
-use Rattle.rds_safety.proofs.Entries.{before_end, entry_beside, one_entry}
-use Rattle.rds_safety.proofs.Hearing.{IsPicked, all_picked}
+use Rattle.rds_safety.proofs.Entries.{before_end, entry_beside, one_entry, IsPicked, all_picked}
 
 -- the last segment at an address is one of the segments, and has the address
 last_is : (P : Segment → Type 0) (a : ℕ) (gs : List Segment) (g : Segment) → AllByRecursion P gs → last_at a gs ≡ Some g

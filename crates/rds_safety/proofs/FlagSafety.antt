@@ -1,8 +1,8 @@
 -- Lemmas: a receiver with the flag bit alone that heard a segment of each broadcast before news shows the value of its
 -- run's source, and tags of that text; and two such receivers show neighbours.
 use Rattle.std.proofs.lemmas.Bool.Decides.{nat_tests}
-use Rattle.std.proofs.Common.{◌≡◌, ◌≢◌, ◌⊎◌, ◌+◌, ◌<◌, ◌≤◌, ℕ, Bool, List, [], ◌∷◌, length}
-use Rattle.std.proofs.Common.{Option, Some, None, refl, sym, ◌∙◌, subst, inl, inr, arith}
+use Rattle.std.proofs.Common.{◌≡◌, ◌≢◌, ◌⊎◌, ◌+◌, ◌<◌, ◌≤◌, ℕ, Bool, List, [], ◌∷◌, length, Option, Some, None, refl}
+use Rattle.std.proofs.Common.{sym, ◌∙◌, subst, inl, inr, arith}
 use Rattle.std.specs.Prelude.{IfSome}
 use Rattle.std.specs.FinMap.{insert}
 use Rattle.std.specs.List.{AllByRecursion}
@@ -37,16 +37,15 @@ use Rattle.rds_safety.specs.Marks.{IsMarkIn, Mark, Tagged, marks, name_mark, tex
 use Rattle.rds_safety.specs.OwnClock.{IsHeardByOwnClock}
 use Rattle.rds_safety.specs.Safe.{Listener, NamesPiece, ShowsNoTags}
 use Rattle.rds_safety.specs.Source.{IsSource}
-use Rattle.rds_safety.proofs.Bytes.{AreParts, IsService, get-put, name_service, text_service}
-use Rattle.rds_safety.proofs.Entries.{arrival, before_end, in_order_is_heard, mark_sent, one_origin}
+use Rattle.rds_safety.proofs.OneBroadcast.{AreParts, IsService, get-put, name_service, text_service, PicksWhatIsMarked}
+use Rattle.rds_safety.proofs.OneBroadcast.{IsSegmentLike}
+use Rattle.rds_safety.proofs.Entries.{arrival, before_end, in_order_is_heard, mark_sent, one_origin, AreFalling}
+use Rattle.rds_safety.proofs.Entries.{IsPicked, all_picked, segments_fall}
 use Rattle.rds_safety.proofs.FlagRuns.{IsOfOneValue, RunIsOfOneValue, all_before, came_earlier, heard_from, none_passes}
 use Rattle.rds_safety.proofs.FlagRuns.{run_is_of_one_value}
-use Rattle.rds_safety.proofs.Hearing.{AreFalling, IsPicked, all_picked, segments_fall}
-use Rattle.rds_safety.proofs.HeldWhole.{IsIn, all_in, came_in, first_in, in_below, in_segments, one_covers}
-use Rattle.rds_safety.proofs.OneBroadcast.{PicksWhatIsMarked}
-use Rattle.rds_safety.proofs.Pairs.{names_piece, tags_are_marked, was_heard}
+use Rattle.rds_safety.proofs.HeldWhole.{IsIn, all_in, came_in, first_in, in_below, in_segments, one_covers, names_piece}
+use Rattle.rds_safety.proofs.HeldWhole.{tags_are_marked, was_heard}
 use Rattle.rds_safety.proofs.Safety.{name_fragments_marked, text_fragments_marked}
-use Rattle.rds_safety.proofs.Told.{IsSegmentLike}
 
 -- ---- values
 

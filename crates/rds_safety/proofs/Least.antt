@@ -3,8 +3,8 @@
 -- nothing in n slots, then the second segment of `BBBBDDD`. For it the two came less than its dwell apart, so it shows
 -- `AAAADDD`, which nobody set. If j is n + k, the first came k slots late and the second on time. By a clock of its own
 -- any j will do.
-use Rattle.std.proofs.Common.{◌≡◌, ◌⊎◌, ◌+◌, ◌-◌, ◌<◌, ℕ, zero, suc, true, false, List, [], ◌∷◌, length}
-use Rattle.std.proofs.Common.{slice_index, Option, Some, None, refl, ap, inl, inr, arith}
+use Rattle.std.proofs.Common.{◌≡◌, ◌⊎◌, ◌+◌, ◌-◌, ◌<◌, ℕ, zero, suc, true, false, List, [], ◌∷◌, length, slice_index}
+use Rattle.std.proofs.Common.{Option, Some, None, refl, ap, inl, inr, arith}
 use Rattle.std.specs.FinMap.{empty, get, insert}
 use Rattle.std.proofs.lemmas.Bool.Decides.{nat_tests}
 use Rattle.rds_fields.specs.declared.message.Message.{Message}
@@ -30,8 +30,8 @@ use Rattle.rds_safety.specs.Laws.{ShowsAMix}
 use Rattle.rds_safety.specs.Marks.{IsMarkIn, Mark, Nothing, Sends, Tagged, marks, name_mark, text_mark}
 use Rattle.rds_safety.specs.Plans.{AreLawful}
 use Rattle.rds_safety.specs.Safe.{AreSafeViews, Listener, ListensTo}
-use Rattle.rds_safety.proofs.Bytes.{get-put}
-use Rattle.rds_safety.proofs.OnTime.{input_of, one_more}
+use Rattle.rds_safety.proofs.OneBroadcast.{get-put}
+use Rattle.rds_safety.proofs.Entries.{input_of, one_more}
 
 -- a segment of one character, and one of three and a carriage return
 abbrev pub four : ℕ → List ℕ

@@ -1,6 +1,6 @@
 -- Worked examples of the definitions of safety, calculated by hand. Lists have the newest first.
-use Rattle.std.proofs.Common.{◌≡◌, ◌+◌, ◌<◌, ◌≤◌, ℕ, true, false, List, [], ◌∷◌, ◌++◌, take, drop, Option}
-use Rattle.std.proofs.Common.{Some, None, refl, inl, inr, arith, replicate}
+use Rattle.std.proofs.Common.{◌≡◌, ◌+◌, ◌<◌, ◌≤◌, ℕ, true, false, List, [], ◌∷◌, ◌++◌, take, drop, Option, Some, None}
+use Rattle.std.proofs.Common.{refl, inl, inr, arith, replicate}
 use Rattle.rds_fields.specs.declared.message.Message.{Message}
 use Rattle.rds_fields.specs.declared.message.Message.TheVariants.{Text}
 use Rattle.rds_encoder.specs.Entries.{Entry, SetText, Tick, text_moves}
@@ -11,8 +11,7 @@ use Rattle.rds_safety.specs.FlagAlone.{IsNews, run_by_flag}
 use Rattle.rds_safety.specs.Late.{CameFrom, HasEntry, Input, IsHeardLate, IsHeardOnTime}
 use Rattle.rds_safety.specs.Safe.{NamesPiece, RunWasOnAir}
 use Rattle.rds_safety.specs.Source.{IsSource, text_run}
-use Rattle.rds_safety.proofs.Entries.{before_end}
-use Rattle.rds_safety.proofs.OnTime.{nothing_heard, one_more}
+use Rattle.rds_safety.proofs.Entries.{before_end, nothing_heard, one_more}
 
 abbrev free_slots : ℕ → List Entry
 free_slots n = replicate n (Tick true)

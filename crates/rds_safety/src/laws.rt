@@ -80,6 +80,7 @@ pub fn own_clocks()
 
 /// States that one slot less of spacing, M + K - 1, is not enough: there are plans, a log and a receiver that shows a
 /// text of no broadcast.
+#[tactic(auto, using(crate::proofs::Least::one_slot_less))]
 pub fn the_dwell_is_the_least()
     ensures { OneSlotLessMixes }
 {}

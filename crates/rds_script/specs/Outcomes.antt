@@ -212,7 +212,7 @@ air_lines config slot n e before shown_before shown =
 
 abbrev pub compared_lines : Config → ℕ → ℕ → Event → List Event → List ShownView → List ShownView → List ℕ
 compared_lines config slot n e before shown_before shown =
-    if_alone (config.kind.is_flag_alone) (air_lines config slot n e before shown_before shown)
+    if_alone config.kind.is_flag_alone (air_lines config slot n e before shown_before shown)
 
 -- the lines of all slots, the oldest first
 abbrev pub lines_of : Form → Config → List Event → List Outcome → List ℕ

@@ -24,6 +24,7 @@ const GROUP_ROOM: usize = 96;
 pub(crate) const ANSWER_ROOM: usize = REPLY_ROOM + GROUP_ROOM;
 
 /// Appends the line of the reply, if there was a command, and then the line of the group.
+#[tactic(auto, using(std::proofs::lemmas::Grind::common_steps))]
 pub(crate) fn push_answer<const N: usize>(
     form: &Form,
     slot: u64,

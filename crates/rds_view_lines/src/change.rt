@@ -33,6 +33,7 @@ impl Prefix {
     ghost use Rattle.rds_view_lines.specs.Part.{prefix_of};
 
     /// Appends the prefix and a space.
+    #[tactic(auto, using(std::proofs::lemmas::Grind::common_steps))]
     pub fn push<const N: usize>(self, lines: &mut Lines<N>)
         requires { length lines.old + 43 ≤ N }
         ensures prefix { lines.new ≡ lines.old ++ prefix_of self }

@@ -1,7 +1,7 @@
 -- What `slots` writes of a recording is received, by a clock of the receiver's own.
 use Rattle.std.proofs.lemmas.Bool.Decides.{nat_tests}
-use Rattle.std.proofs.Common.{◌≡◌, ◌<◌, ◌≤◌, ◌+◌, ◌-◌, ◌==◌, ◌∷◌, [], ◌∙◌, ℕ, suc, cond}
-use Rattle.std.proofs.Common.{List, Option, None, Some, ap, arith, inr, length, map, refl, subst, sym}
+use Rattle.std.proofs.Common.{◌≡◌, ◌<◌, ◌≤◌, ◌+◌, ◌-◌, ◌==◌, ◌∷◌, [], ◌∙◌, ℕ, suc, cond, List, Option, None, Some, ap}
+use Rattle.std.proofs.Common.{arith, inr, length, map, refl, subst, sym}
 use Rattle.std.proofs.lemmas.List.{length-map}
 use Rattle.rds_arrivals.specs.Arrivals.{Arrival, and_lost, filled}
 use Rattle.rds_arrivals.specs.Delivered.{arrivals, origins}
@@ -15,7 +15,7 @@ use Rattle.rds_safety.specs.OwnClock.{IsHeardByOwnClock}
 use Rattle.rds_safety.proofs.Entries.{one_entry}
 use Rattle.rds_wire.specs.FromTimes.{WhatSlotsWritesIsReceived}
 use Rattle.rds_wire.specs.Received.{first_entries, own_group}
-use Rattle.rds_wire.proofs.Firsts.{first_all}
+use Rattle.rds_wire.proofs.Receiving.{first_all}
 
 -- ---- without the groups of other programmes
 

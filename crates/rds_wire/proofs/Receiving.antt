@@ -1,23 +1,137 @@
 -- From the groups that reached a receiver to the messages that it heard: as late as the groups, or by the same clock.
+use Rattle.std.proofs.Common.{◌≡◌, ◌-◌, ◌<◌, ◌≤◌, ℕ, suc, List, [], ◌∷◌, length, refl, sym, ap, ◌∙◌, subst, inl, inr}
+use Rattle.std.proofs.Common.{arith, ◌+◌, zero, None, Option, drop, length-append, replicate, Bool, Some, map}
+use Rattle.std.proofs.lemmas.Bool.{cases_lt}
+use Rattle.rds_safety.specs.Late.{HasEntry, CameFrom, Input, InputOf, IsHeardInOrder, IsHeardLate, IsOfItsOrigin}
+use Rattle.rds_safety.proofs.Entries.{before_end, marks_long}
+use Rattle.rds_wire.specs.Received.{first_entries, Came, own_group}
+use Rattle.std.proofs.lemmas.List.{drop-append-le, length-replicate}
+use Rattle.rds_fields.specs.declared.message.Message.{Message}
+use Rattle.rds_audit.specs.Recording.{from_first_text, preceded}
+use Rattle.rds_block.specs.declared.group.Group.{Group}
+use Rattle.rds_receiver.specs.Receipts.{Tuning, AreHeard, heard_in, heard_of}
+use Rattle.rds_receiver.specs.Shown.{IsView}
+use Rattle.rds_safety.specs.Lawful.{IsLawful, Kind}
+use Rattle.rds_safety.specs.Marks.{IsMarkIn, Mark, marks}
+use Rattle.rds_safety.specs.Plans.{AreLawfulAs, Plans}
+use Rattle.rds_encoder.specs.Plan.{Broadcast}
+use Rattle.rds_view_lines.specs.Output.{Display}
+use Rattle.rds_log.specs.LogWrites.{AreDisplays}
 use Rattle.std.proofs.lemmas.Bool.Decides.{nat_tests}
-use Rattle.std.proofs.Common.{◌≡◌, ◌≤◌, ◌+◌, ◌∷◌, [], ◌∙◌, ℕ, suc, List, Option}
-use Rattle.std.proofs.Common.{None, Some, ap, arith, inl, inr, length, map, refl, sym}
 use Rattle.std.specs.List.{AllZip}
 use lib.ListN.{length-map}
-use Rattle.rds_block.specs.declared.group.Group.{Group}
-use Rattle.rds_fields.specs.declared.message.Message.{Message}
 use Rattle.rds_log.specs.Audit.{spacing}
 use Rattle.rds_log.specs.declared.audit_log.Auditing.{Auditing}
-use Rattle.rds_receiver.specs.Receipts.{AreHeard, heard_in, heard_of}
-use Rattle.rds_safety.specs.Late.{CameFrom, HasEntry, Input, InputOf, IsHeardInOrder, IsHeardLate, IsOfItsOrigin}
 use Rattle.rds_safety.specs.Laws.{ASlowClockIsAnOwnClock, LateIsBySlowClock}
 use Rattle.rds_safety.specs.OwnClock.{IsHeardByOwnClock}
-use Rattle.rds_safety.proofs.Entries.{before_end}
-use Rattle.rds_wire.specs.Groups.{GroupsByOwnClockAreMessagesByIt, LateGroupsAreLateMessages}
-use Rattle.rds_wire.specs.Groups.{OtherGroupsAreNothing, WhatIsSentIsHeard, with_messages}
-use Rattle.rds_wire.specs.Received.{Came, first_entries, own_group}
+use Rattle.rds_wire.specs.Groups.{GroupsByOwnClockAreMessagesByIt, LateGroupsAreLateMessages, OtherGroupsAreNothing}
+use Rattle.rds_wire.specs.Groups.{WhatIsSentIsHeard, with_messages}
 use Rattle.rds_world.proofs.Received.{hears_sent}
-use Rattle.rds_wire.proofs.Firsts.{entry_of_first}
+
+-- ---- the first entries of a list over time, and the input of a receiver up to a slot
+
+-- no more than n entries are all of them
+pub first_all : {X : Type 0} (n : ℕ) (xs : List X) → length xs ≤ n → first_entries n xs ≡ xs
+first_all n xs few = let none : length xs - n ≡ 0 = omega (arith, few) in rw none refl
+
+-- an entry after n others is none of the first n
+pub first_more : {X : Type 0} (n : ℕ) (x : X) (xs : List X) → n ≤ length xs
+    → first_entries n (x ∷ xs) ≡ first_entries n xs
+first_more n x xs some = let step : length (x ∷ xs) - n ≡ suc (length xs - n) = omega (arith, some) in rw step refl
+
+-- the first n of enough entries are n
+pub first_length : {X : Type 0} (n : ℕ) (xs : List X) → n ≤ length xs → length (first_entries n xs) ≡ n
+first_length n [] some = ap length (first_all n [] (omega arith)) ∙ omega (arith, some)
+first_length n (x ∷ xs) some = elim (cases_lt (length xs) n) [
+  | inl all ↦ ap length (first_all n (x ∷ xs) (omega (arith, all))) ∙ omega (arith, all, some)
+  | inr more ↦ ap length (first_more n x xs more) ∙ first_length n xs more
+]
+
+-- an entry of the first ones
+pub entry_in_first : {X : Type 0} (n : ℕ) (xs : List X) (t : ℕ) (x : X) → HasEntry 0 (first_entries n xs) t x
+    → HasEntry 0 xs t x × (t < n)
+entry_in_first n [] t x has = absurd (subst (λ l. HasEntry 0 l t x) (first_all n [] (omega arith)) has)
+entry_in_first n (y ∷ ys) t x has = grind (arith, entry_in_first n ys t x, first_all, before_end, first_more)
+
+-- an entry of an early slot is one of the first ones
+pub entry_of_first : {X : Type 0} (n : ℕ) (xs : List X) (t : ℕ) (x : X) → HasEntry 0 xs t x → t < n
+    → HasEntry 0 (first_entries n xs) t x
+entry_of_first n [] t x has below = absurd has
+entry_of_first n (y ∷ ys) t x has below = elim (cases_lt (length ys) n) [
+  | inl all ↦ subst (λ l. HasEntry 0 l t x) (sym (first_all n (y ∷ ys) (omega (arith, all)))) has
+  | inr more ↦ subst (λ l. HasEntry 0 l t x) (sym (first_more n y ys more)) (elim has [
+    | inl here ↦ absurd (omega (arith, here.0, more, below))
+    | inr there ↦ entry_of_first n ys t x there below
+  ])
+]
+
+-- ---- a log with slots in front, up to a slot
+
+-- the first slots of a log with slots in front
+pub preceded_first : (d n : ℕ) (log : List (Option Message))
+    → first_entries (n + d) (preceded d log) ≡ preceded d (first_entries n log)
+preceded_first d n log =
+    let none : Option Message = None in
+    let long : length (preceded d log) - (n + d) ≡ length log - n =
+    omega (arith, length-append log (replicate d none), length-replicate d none) in
+    ap (λ (j : ℕ). drop j (preceded d log)) long
+    ∙ drop-append-le (length log - n) log (replicate d None) (omega arith)
+
+settled_long : (log : List (Option Message)) → length (from_first_text log) ≡ length log
+settled_long [] = refl
+settled_long (x ∷ before) = ap suc (settled_long before)
+
+settled_drop : (j : ℕ) (log : List (Option Message)) → drop j (from_first_text log) ≡ from_first_text (drop j log)
+settled_drop zero log = refl
+settled_drop (suc j) [] = refl
+settled_drop (suc j) (x ∷ before) = settled_drop j before
+
+-- the first slots without the tags before the first text segment
+pub settled_first : (n : ℕ) (log : List (Option Message))
+    → first_entries n (from_first_text log) ≡ from_first_text (first_entries n log)
+settled_first n log = grind (arith, settled_long, settled_drop)
+
+-- ---- marks and plans
+
+mark_below : (of : Option Message → Mark) (sent : List (Option Message)) (slot : ℕ) (mark : Mark)
+    → IsMarkIn (marks of sent) slot mark → slot < length sent
+mark_below of [] slot mark is = absurd is
+mark_below of (x ∷ before) slot mark here = grind (arith, mark_below of before slot mark, marks_long)
+
+-- a mark of the first slots
+pub mark_in_first : (of : Option Message → Mark) (n : ℕ) (sent : List (Option Message)) (slot : ℕ) (mark : Mark)
+    → IsMarkIn (marks of (first_entries n sent)) slot mark → IsMarkIn (marks of sent) slot mark × (slot < n)
+mark_in_first of n [] slot mark is = grind arith
+mark_in_first of n (x ∷ before) slot mark is =
+    grind (arith, mark_in_first of n before slot mark, first_all, mark_below, first_more)
+
+-- plans that are lawful for a log are so for its first slots
+kind_first : (d n : ℕ) (kind : Kind) (plan : List Broadcast) (of : Option Message → Mark) (sent : List (Option Message))
+    → IsLawful d kind plan (marks of sent) → IsLawful d kind plan (marks of (first_entries n sent))
+kind_first d n kind plan of sent lawful = grind (arith, mark_in_first)
+
+-- so are both plans
+pub lawful_first : (kind : Kind) (d n : ℕ) (plans : Plans) (sent : List (Option Message))
+    → AreLawfulAs kind d plans sent → AreLawfulAs kind d plans (first_entries n sent)
+lawful_first kind d n plans sent lawful = search (arith, kind_first)
+
+-- ---- displays
+
+-- there is a display for each slot
+pub displays_long : (why : Bool) (t : Tuning) (slots : List (Option Group)) (displays : List Display)
+    → AreDisplays why t slots displays → length slots ≡ length displays
+displays_long why t [] [] are = refl
+displays_long why t (slot ∷ before) (d ∷ older) are = ap suc (displays_long why t before older are.1)
+displays_long why t _ _ are = absurd are
+
+-- the view in a slot is that of the slots up to it
+pub view_in : (why : Bool) (t : Tuning) (slots : List (Option Group)) (displays : List Display) (n : ℕ) (d : Display)
+    → AreDisplays why t slots displays → HasEntry 0 displays n d
+    → IsView t (first_entries (n + 1) slots) d.view × (n < length slots)
+view_in why t [] [] n d are at = absurd at
+view_in why t (slot ∷ before) (x ∷ older) n d are here =
+    grind (arith, view_in why t before older n d are.1, displays_long, first_all, first_more)
+view_in why t _ _ n d are at = absurd are
 
 -- ---- two lists side by side
 

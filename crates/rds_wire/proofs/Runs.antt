@@ -1,6 +1,12 @@
 -- The wire laws for runs of the program.
-use Rattle.std.proofs.Common.{◌≡◌, ◌⊎◌, ◌∙◌, ◌++◌, ◌∷◌, ◌^◌, [], ℕ, List, Option, Some, ap, append_assoc}
-use Rattle.std.proofs.Common.{arith, codes, decimal, get_or, inl, inr, refl, subst, sym}
+use Rattle.std.proofs.Common.{ℕ, List, Option, inl, inr, refl, ◌≡◌, ◌⊎◌, ◌∙◌, ◌++◌, ◌∷◌, ◌^◌, [], Some, ap}
+use Rattle.std.proofs.Common.{append_assoc, arith, codes, decimal, get_or, subst, sym}
+use Rattle.rds_io.specs.Told.{traffic, Failed, Traffic}
+use Rattle.rds_program.specs.Run.{listening, EndsWith, PutsLine, auditing_of, decoding_of, done, script_in}
+use Rattle.rds_program.specs.Run.{verdict_status}
+use Rattle.rds_program.specs.RunsBy.{task_by}
+use Rattle.rds_wire.specs.Program.{WhatIsAskedForRan, Ran, WhatTheProgramDecodesIsPrinted, WhatTheProgramEncodesIsSafe}
+use Rattle.rds_wire.specs.Program.{WhatTheProgramPassesIsSafe, over}
 use Rattle.std.specs.Io.KnownBytes.{Appends}
 use Rattle.std.specs.List.{Contains}
 use Rattle.std.specs.Prelude.{All, Bool, Err, Ok, Result, false, true}
@@ -8,7 +14,6 @@ use Rattle.std.proofs.lemmas.List.Elements.{All-cons}
 use Rattle.rds_block.specs.declared.group.Group.{Group}
 use Rattle.rds_cli.specs.declared.request.Programme.{Programme}
 use Rattle.rds_cli.specs.declared.request.Task.TheVariants.{Audit, Decode, Encode}
-use Rattle.rds_io.specs.Told.{Failed, Traffic}
 use Rattle.rds_io.specs.declared.fault.LogFault.{LogFault}
 use Rattle.rds_io.specs.declared.fault.LogFault.TheVariants.{BadLine, BadRow, Memory, Read, TooLong, Write}
 use Rattle.rds_log.specs.Audit.{WholePasses}
@@ -25,8 +30,6 @@ use Rattle.rds_log.specs.declared.audit_log.Auditing.{Auditing}
 use Rattle.rds_log.specs.declared.decode_log.Decoding.{Decoding}
 use Rattle.rds_log.proofs.FilledText.{more_text}
 use Rattle.rds_lines.proofs.WholeBytes.{read_and_left, read_whole}
-use Rattle.rds_program.specs.Run.{EndsWith, PutsLine, auditing_of, decoding_of}
-use Rattle.rds_program.specs.Run.{done, listening, script_in, verdict_status}
 use Rattle.rds_script.specs.Play.{Plays, WroteRows, with_form}
 use Rattle.rds_script.specs.Rows.{Record}
 use Rattle.rds_script.specs.declared.form.Form.TheVariants.{Log}
@@ -34,16 +37,40 @@ use Rattle.rds_script.specs.declared.play.Playing.{Playing}
 use Rattle.rds_view_lines.specs.Output.{Display, changes_of}
 use Rattle.rds_view_lines.specs.ViewParts.{Part, line_in}
 use Rattle.rds_wire.specs.Printed.{Prints, Shows}
-use Rattle.rds_wire.specs.Program.{Ran, WhatTheProgramDecodesIsPrinted, WhatTheProgramEncodesIsSafe}
-use Rattle.rds_wire.specs.Program.{WhatTheProgramPassesIsSafe, over}
 use Rattle.rds_wire.specs.Received.{IsReceived}
-use Rattle.rds_wire.specs.Wire.{Encodes, HasSafePlans, IsHead, WhatIsEncodedIsSafeOnTheWire}
-use Rattle.rds_wire.specs.Wire.{WhatPassesIsSafeOnTheWire, complete_in, station_of}
-use Rattle.rds_wire.proofs.Logs.{HasCut, is_log_of, with_comment}
-use Rattle.rds_wire.proofs.Printed.{decimal_line, empty_line, feedless, join_lines}
+use Rattle.rds_wire.specs.Wire.{Encodes, HasSafePlans, IsHead, WhatIsEncodedIsSafeOnTheWire, WhatPassesIsSafeOnTheWire}
+use Rattle.rds_wire.specs.Wire.{complete_in, station_of}
+use Rattle.rds_wire.proofs.Logs.{HasCut, is_log_of, with_comment, decimal_line, empty_line, feedless, join_lines}
 use Rattle.rds_wire.proofs.Reading.{all_lines, are_lines, changes_text, contains_from_in, in_from_contains, lines_of}
 use Rattle.rds_wire.proofs.Reading.{prefix_lacks}
 use Rattle.rds_wire.proofs.Wired.{EncoderLaws, log_of_script}
+
+-- ---- a run whose arguments ask for a task is a run of this task
+
+pub asked_for_ran : {R : Type 0} (remaining : R → Option (List ℕ)) (failures reads : R → ℕ)
+    → WhatIsAskedForRan remaining failures reads
+asked_for_ran remaining failures reads words old new w status asked pi input output did is given known fresh wrote
+    calm =
+    elim (did.runs asked pi is given) [
+      | inl memory ↦ inl memory.0
+      | inr ran ↦
+          let r = traffic remaining failures old new in
+          inr (
+            record {
+              lose = asked.lose;
+              status = status;
+              r = r;
+              w = w;
+              given = known;
+              fresh = fresh;
+              wrote = wrote;
+              unfailed = calm;
+              ran = task_by (λ failed. tt) (λ rests. tt) asked.task asked.lose
+                  (listening asked.rtplus pi asked.dwell) r w status ran;
+            },
+            refl,
+          )
+    ]
 
 -- ---- bytes of a run
 
@@ -175,8 +202,6 @@ encoded_by_the_program law encoder programme n pi m k script output may fits typ
           (received_of a it.log output has.sent one.write.slots t now has.cut all ra)
           (received_of a it.log output has.sent other.write.slots u now has.cut all rb),
     )
-
--- ---- bytes read
 
 -- ---- lines of faults
 

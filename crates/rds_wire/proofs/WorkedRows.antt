@@ -1,7 +1,7 @@
 -- Worked rows: how a log is received, and what is safe to show. Those that end in ⊥ say no: so a wider definition would
 -- be seen. Tests of the program play what is safe.
-use Rattle.std.proofs.Common.{◌≡◌, ◌≢◌, ◌⊎◌, ◌<◌, ◌+◌, ◌∷◌, ◌∙◌, [], ℕ, false, true, List, None, Option}
-use Rattle.std.proofs.Common.{Some, ap, arith, codes, get_or, inl, inr, map, refl, subst, sym}
+use Rattle.std.proofs.Common.{◌≡◌, ◌≢◌, ◌⊎◌, ◌<◌, ◌+◌, ◌∷◌, ◌∙◌, [], ℕ, false, true, List, None, Option, Some, ap}
+use Rattle.std.proofs.Common.{arith, codes, get_or, inl, inr, map, refl, subst, sym}
 use Rattle.std.specs.Char.{encode_utf8}
 use Rattle.std.proofs.lemmas.List.Elements.{All-cons, All-nil}
 use Rattle.rds_block.specs.declared.group.Group.{Group}
@@ -26,8 +26,7 @@ use Rattle.rds_wire.specs.Safe.{AreSafe, StationPlans, WasOnAir, WentWith}
 use Rattle.rds_wire.specs.Twice.{HasMessages, IsReceivedWithWrong}
 use Rattle.rds_wire.specs.Wire.{IsSafeOnTheWire}
 use Rattle.rds_safety.proofs.Entries.{before_end}
-use Rattle.rds_wire.proofs.Logs.{dashes, group_says}
-use Rattle.rds_wire.proofs.Printed.{empty_line, feedless}
+use Rattle.rds_wire.proofs.Logs.{dashes, group_says, empty_line, feedless}
 use Rattle.rds_wire.proofs.Wired.{entry_at}
 
 abbrev hi : Group

@@ -1,15 +1,5 @@
-pub mod Slots
-pub mod Mixes
-pub mod Logs
-pub mod PartSteps
-pub mod TagParts
-pub mod PairRuns
 pub mod HeldParts
-pub mod KeptReceivers
-pub mod Losses
 pub mod Rulings
-pub mod SameState
-pub mod LossSteps
-pub mod FirstSlots
+pub mod Mixes
 pub mod SpanSteps
 pub mod WorkedRows

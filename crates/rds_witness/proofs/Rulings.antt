@@ -1,8 +1,13 @@
 -- Why a slot has no mix if receivers that hold all that others hold show nothing else than one that loses nothing.
+use Rattle.std.proofs.Common.{◌≡◌, ◌∙◌, ◌∷◌, [], ◌+◌, ◌<◌, ◌≤◌, ℕ, zero, suc, false, true, List, Option, None, add-one}
+use Rattle.std.proofs.Common.{ap, arith, length, refl, sym, Some, get_or, reverse, take}
+use Rattle.std.specs.Prelude.{if◌then◌else◌, slice_index_or}
+use Rattle.std.proofs.lemmas.List.Folds.{list_any_more}
 use Rattle.std.proofs.lemmas.Bool.Decides.{nat_tests}
-use Rattle.std.proofs.Common.{[], ◌≡◌, ◌+◌, ◌<◌, ◌≤◌, ◌∷◌, ℕ, List, None, Option, Some, ap, arith, length}
-use Rattle.std.proofs.lemmas.List.Elements.{All-contains}
 use Rattle.rds_block.specs.declared.group.Group.{Group}
+use Rattle.rds_witness.specs.Lost.{got, got-more, got-none, has_slot, is_lost, group_left}
+use Rattle.rds_witness.specs.declared.burst.Burst.{Burst}
+use Rattle.std.proofs.lemmas.List.Elements.{All-contains}
 use Rattle.rds_fields.specs.declared.pair.Which.{Which}
 use Rattle.rds_fields.specs.Tag.{PairFields, tag_in}
 use Rattle.rds_assembly.specs.Cells.{Cells}
@@ -14,15 +19,78 @@ use Rattle.rds_receiver.specs.Shown.{IsShown, IsView, ShownView}
 use Rattle.rds_receiver.specs.Tags.{cut_by, pair_held, tag_of}
 use Rattle.rds_receiver.specs.Confirmed.{counted}
 use Rattle.rds_witness.specs.Covered.{CoversInput, IsCovered, IsInputPart}
-use Rattle.rds_witness.specs.Lost.{got}
 use Rattle.rds_witness.specs.Mix.{Has, IsBurstMix, Thing, until}
 use Rattle.rds_witness.specs.Part.{IsPairPart}
 use Rattle.rds_witness.specs.Search.{HasViews, IsReplaced, IsSeenBefore, IsTagOfRun, ShowOnlySeen, ShowsOnlySeen}
-use Rattle.rds_witness.specs.declared.burst.Burst.{Burst}
+use Rattle.rds_witness.specs.Search.{HasOnlySeen}
 use Rattle.rds_witness.specs.declared.covering.Lossy.{Lossy}
-use Rattle.rds_witness.proofs.KeptReceivers.{by_first}
-use Rattle.rds_witness.proofs.Losses.{got_long}
-use Rattle.rds_witness.proofs.PartSteps.{part_cells, whole_name, whole_text}
+use Rattle.rds_witness.proofs.HeldParts.{by_first, part_cells, whole_name, whole_text}
+use Rattle.rds_receiver.specs.ReceiverAt.{ReceiverAt}
+use Rattle.rds_receiver.specs.Stored.{display_stored}
+use Rattle.rds_receiver.specs.declared.receiver.Receiver.{Receiver}
+use Rattle.rds_receiver.proofs.Alike.{alike_itself, stays_shown}
+use Rattle.std.proofs.Math.Seq.{take-suc}
+use Rattle.std.proofs.lemmas.List.{reverse-append, take_all}
+
+-- ---- what receivers get that lose different slots
+
+pub not_lost_before : (burst : Burst) (n : ℕ) → n < burst.first → is_lost (burst ∷ []) n ≡ false
+not_lost_before burst n less = grind (arith, nat_tests)
+
+pub not_lost_behind : (burst : Burst) (n : ℕ) → burst.last < n → is_lost (burst ∷ []) n ≡ false
+not_lost_behind burst n less = grind (arith, nat_tests)
+
+pub lost_inside : (burst : Burst) (n : ℕ) → burst.first ≤ n → n ≤ burst.last → is_lost (burst ∷ []) n ≡ true
+lost_inside burst n from to = grind (arith, nat_tests)
+
+-- one burst more is lost
+pub burst_more : (lost : List Burst) (k : ℕ) (d : Burst) (log old new : List (Option Group)) (n : ℕ) → k < length lost
+    → slice_index_or old n None ≡ group_left (take k lost) log n
+    → slice_index_or new n None ≡ if has_slot (get_or lost k d) n then None else slice_index_or old n None
+    → slice_index_or new n None ≡ group_left (take (k + 1) lost) log n
+burst_more lost k d log old new n inside was is =
+    let test = list_any_more (λ (burst : Burst). has_slot burst n) lost k d inside in
+    grind (arith, nat_tests)
+
+received_alike : (one other : List Burst) (log : List (Option Group)) (n : ℕ) → is_lost one n ≡ is_lost other n
+    → group_left one log n ≡ group_left other log n
+received_alike one other log n same = rw same refl
+
+pub got_alike : (one other : List Burst) (log : List (Option Group)) (n : ℕ)
+    → ((k : ℕ) → k < n → is_lost one k ≡ is_lost other k) → got one log n ≡ got other log n
+got_alike one other log zero alike = got-none one log ∙ sym (got-none other log)
+got_alike one other log (suc n) alike =
+    let older = got_alike one other log n (λ k less. alike k (omega arith)) in
+    let newest = received_alike one other log n (alike n (omega arith)) in
+    rw (← add-one n, got-more one log n, got-more other log n, older, newest)
+
+-- a burst that begins in slot n, up to it
+pub got_before : (burst : Burst) (log : List (Option Group)) (n : ℕ) → n ≤ burst.first
+    → got (burst ∷ []) log n ≡ got [] log n
+got_before burst log n less = grind (arith, nat_tests, got_alike, not_lost_before)
+
+-- bursts that begin together, up to slot n, which is behind neither by more than one
+pub got_together : (one other : Burst) (log : List (Option Group)) (n : ℕ) → one.first ≡ other.first → n ≤ one.last + 1
+    → n ≤ other.last + 1 → got (one ∷ []) log n ≡ got (other ∷ []) log n
+got_together one other log n same one_more other_more =
+    grind (arith, nat_tests, got_alike, not_lost_before, lost_inside)
+
+-- the next slot, behind the burst and in it
+pub heard_next : (burst : Burst) (log : List (Option Group)) (n : ℕ) (group : Option Group) → burst.last < n
+    → group ≡ group_left [] log n → group ∷ got (burst ∷ []) log n ≡ got (burst ∷ []) log (n + 1)
+heard_next burst log n group behind is =
+    let same = received_alike [] (burst ∷ []) log n (sym (not_lost_behind burst n behind)) in
+    rw (got-more (burst ∷ []) log n, is ∙ same)
+
+-- in a burst the next slot is lost
+pub lost_next : (burst : Burst) (log : List (Option Group)) (n : ℕ) → burst.first ≤ n → n ≤ burst.last
+    → None ∷ got (burst ∷ []) log n ≡ got (burst ∷ []) log (n + 1)
+lost_next burst log n from to = rw (got-more (burst ∷ []) log n, lost_inside burst n from to)
+
+-- a receiver gets as many slots as passed, lost ones too
+pub got_long : (lost : List Burst) (log : List (Option Group)) (n : ℕ) → length (got lost log n) ≡ n
+got_long lost log zero = ap length (got-none lost log)
+got_long lost log (suc n) = rw (← add-one n, got-more lost log n) (omega (arith, got_long lost log n))
 
 -- ---- what a tag shows
 
@@ -122,3 +190,49 @@ no_mix t log n slots is soon views whole receivers same_whole hold show burst th
 pub now_before_until : (dwell : ℕ) (log : List (Option Group)) (n : ℕ) → 0 < dwell → n < length log
     → n < until dwell log n
 now_before_until dwell log n some inside = grind (arith, nat_tests)
+
+-- ---- what a receiver shows wherever it stands, and in later slots
+
+-- the view of a state at two inputs
+view_at : (t : Tuning) (r : Receiver) (one other : List (Option Group)) (v : ShownView) → ReceiverAt t r one
+    → ReceiverAt t r other → IsView t one v → IsView t other v
+view_at t r one other v mine theirs =
+    stays_shown t r r one other v mine theirs (alike_itself (display_stored r.display))
+
+only_everywhere : (t : Tuning) (log : List (Option Group)) (n : ℕ) (r : Receiver) (input : List (Option Group))
+    → ReceiverAt t r input → HasOnlySeen t log n input → ShowsOnlySeen t log n r
+only_everywhere t log n r input stands only other there = record
+    { view = only.view; is = view_at t r input other only.view stands there only.is; seen = only.seen }
+
+-- a view that stays
+pub only_stays : (t : Tuning) (log : List (Option Group)) (n : ℕ) (old new : Receiver) (group : Option Group)
+    (input : List (Option Group)) → ((view : ShownView) → IsView t input view → IsView t (group ∷ input) view)
+    → ReceiverAt t old input → ReceiverAt t new (group ∷ input) → ShowsOnlySeen t log n old → ShowsOnlySeen t log n new
+only_stays t log n old new group input same stands now only =
+    let was = only input stands in
+    only_everywhere t log n new (group ∷ input) now record
+    { view = was.view; is = same was.view was.is; seen = was.seen }
+
+-- what shows only what was seen up to a slot shows only that up to a later one
+pub only_later : (t : Tuning) (log : List (Option Group)) (n k : ℕ) (r : Receiver) → n ≤ k
+    → ShowsOnlySeen t log n r → ShowsOnlySeen t log k r
+only_later t log n k r less only input stands = grind (arith, nat_tests)
+
+-- the end of the slots that count does not go back
+pub until_later : (m : ℕ) (log : List (Option Group)) (n : ℕ) → until m log n ≤ until m log (n + 1)
+until_later m log n = grind (arith, nat_tests)
+
+-- ---- a receiver that loses nothing gets the slots of the log
+
+got-first : (log : List (Option Group)) (n : ℕ) → n ≤ length log → got [] log n ≡ reverse (take n log)
+got-first log zero less = got-none [] log
+got-first log (suc n) less =
+    let here : n < length log = omega (arith, less) in
+    let had : got [] log n ≡ reverse (take n log) = got-first log n (omega (arith, less)) in
+    let last = get_or log n None in
+    ap (got [] log) (sym (add-one n)) ∙ got-more [] log n ∙ ap (λ (l : List (Option Group)). last ∷ l) had
+    ∙ sym (reverse-append (take n log) (last ∷ [])) ∙ ap reverse (sym (take-suc log n None here))
+
+-- who loses nothing gets the log
+pub got-all : (log : List (Option Group)) → got [] log (length log) ≡ reverse log
+got-all log = got-first log (length log) (omega arith) ∙ ap reverse (take_all (length log) log (omega arith))

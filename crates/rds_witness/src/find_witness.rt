@@ -91,6 +91,7 @@ fn answer<W: TellingWrite>(
 }
 
 /// Appends the answer to a log: the mixes of the witness, or that no witness was found.
+#[tactic(auto, using(std::proofs::lemmas::Bool::Decides::nat_tests))]
 fn push_answer(
     log: &[Option<Blocks>],
     firsts: &Firsts,

@@ -13,7 +13,7 @@ use Rattle.rds_receiver.specs.Shown.{ShownView}
 use Rattle.rds_safety.specs.Late.{CameFrom}
 use Rattle.rds_safety.specs.Plans.{Plans}
 use Rattle.rds_safety.specs.Safe.{Listener, ListensTo}
-use Rattle.rds_safety.proofs.Counts.{one_segment}
+use Rattle.rds_safety.proofs.Safety.{one_segment}
 use Rattle.rds_world.specs.ReceiverKind.{with_dwell}
 use Rattle.rds_world.specs.Delivery.{ANameIsDelivered, AStationDeliversAName, AStationDeliversAText}
 use Rattle.rds_world.specs.Delivery.{AStationDeliversAnyText, ATextIsDelivered, AnyTextIsDelivered, GetsEachFree}

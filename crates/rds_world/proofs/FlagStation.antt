@@ -1,17 +1,45 @@
 -- Lemmas: the flag of a station turns with each text or name that it accepts without a restart between, and each that
 -- another one follows lasts for 2d slots. Across a restart comes the empty text, or the newest one with flag 0 again.
 use Rattle.std.proofs.lemmas.Bool.Decides.{nat_tests}
-use Rattle.std.proofs.Common.{◌≡◌, ◌≢◌, ◌⊎◌, ◌+◌, ◌-◌, ◌*◌, ◌≤◌, ℕ, true, false, List, [], ◌∷◌, length, Option}
-use Rattle.std.proofs.Common.{Some, None, refl, sym, subst, inl, inr, arith, is_ok, ◌<◌}
-use Rattle.rds_encoder.specs.Entries.{Move, Begin, Set, End, slot_of}
+use Rattle.std.proofs.Common.{◌≡◌, ◌≢◌, ◌⊎◌, ◌+◌, ◌-◌, ◌*◌, ◌≤◌, ℕ, true, false, List, [], ◌∷◌, length, Option, Some}
+use Rattle.std.proofs.Common.{None, refl, sym, subst, inl, inr, arith, is_ok, ◌<◌}
+use Rattle.rds_encoder.specs.Entries.{Move, Begin, Set, End, slot_of, name_moves, text_moves}
 use Rattle.rds_encoder.specs.Plan.{Broadcast, HasNumber, OnAir, accepted, ending_in, next_flag, on_air, plan_of}
 use Rattle.rds_encoder.specs.Reply.{reply_to}
 use Rattle.rds_encoder.proofs.Numbers.{below}
 use Rattle.rds_encoder.proofs.OnAir.{flag_on_air}
 use Rattle.rds_encoder.proofs.Spacing.{long_on_air}
-use Rattle.rds_safety.specs.FlagAlone.{EachLasts, IsFilled, IsHarmless, IsNews, TurnsTheFlag}
-use Rattle.rds_world.specs.FlagStation.{HasNoRestart, IsEmptyAfter, IsFirstAfterRestart, IsHarmlessAfter}
-use Rattle.rds_world.specs.FlagStation.{IsSafeAfter, TheEmptyTextIsEnough, TheStationKeepsEach, TheStationTurnsTheFlag}
+use Rattle.rds_safety.specs.FlagAlone.{EachLasts, IsFilled, IsHarmless, IsNews, TurnsTheFlag, HearsOneIn, ShowsByFlag}
+use Rattle.rds_world.specs.FlagStation.{HasNoRestart, IsEmptyAfter, IsFirstAfterRestart, IsHarmlessAfter, IsSafeAfter}
+use Rattle.rds_world.specs.FlagStation.{TheEmptyTextIsEnough, TheStationKeepsEach, TheStationTurnsTheFlag}
+use Rattle.rds_world.specs.FlagStation.{NamesOfAStationAreNew, NamesOfAStationAreOfTheirSource}
+use Rattle.rds_world.specs.FlagStation.{TagsOfAStationAreOfTheirText, TextsOfAStationAreNew}
+use Rattle.rds_world.specs.FlagStation.{TextsOfAStationAreOfTheirSource, MixesAStation}
+use Rattle.rds_fields.specs.declared.message.Message.{Message}
+use Rattle.rds_encoder.specs.Sent.{sent_log}
+use Rattle.rds_receiver.specs.Receipts.{name_fragment, text_fragment}
+use Rattle.rds_receiver.specs.declared.fragment.Fragment.{Fragment}
+use Rattle.rds_safety.specs.FlagLaws.{NamesByFlagAreNew, NamesByFlagAreOfTheirSource, TagsByFlagAreOfTheirText}
+use Rattle.rds_safety.specs.FlagLaws.{TextsByFlagAreNew, TextsByFlagAreOfTheirSource, WhoHearsOneInHearsEach}
+use Rattle.rds_safety.specs.FlagLaws.{WhoHearsOneInHearsTextBeforeTags}
+use Rattle.rds_safety.specs.Late.{Input, CameFrom, IsHeardLate, own_origins}
+use Rattle.rds_world.specs.Station.{TheEncoderIsLawful, station_plans}
+use Rattle.std.specs.FinMap.{empty, get, insert}
+use Rattle.rds_fields.specs.declared.message.Message.TheVariants.{Text}
+use Rattle.rds_assembly.specs.Body.{segment_of, text_body}
+use Rattle.rds_assembly.specs.Cells.{Cells}
+use Rattle.rds_assembly.specs.OwnSegments.{all_text}
+use Rattle.rds_assembly.specs.ServiceLaws.{no_name_of_none}
+use Rattle.rds_receiver.specs.Shown.{ShownView}
+use Rattle.rds_safety.proofs.OneBroadcast.{get-put}
+use Rattle.rds_safety.proofs.Entries.{before_end, input_of, no_slot_late}
+use Rattle.rds_safety.proofs.Least.{four, is_text, newer_text, older_text, text_of_two, three_and_end}
+use Rattle.rds_world.specs.declared.event.Command.{Command}
+use Rattle.rds_world.specs.declared.event.Command.TheVariants.{Quiet, Restart, SetText}
+use Rattle.rds_world.specs.Event.{Event}
+
+-- ---- the flag of a station turns with each text or name that it accepts without a restart between, and each that
+-- another one follows lasts for 2d slots
 
 -- the newest of a plan
 abbrev IsNewest : List Broadcast → Broadcast → Type 0
@@ -219,3 +247,137 @@ one_life d [] one = tt
 one_life d (Begin ∷ before) one = absurd one
 one_life d (End free ∷ before) one = one_life d before one
 one_life d (Set x ∷ before) one = grind (arith, one_life d before one, nothing_yet)
+
+-- ---- a station is safe for receivers with the flag bit alone that hear it often enough
+
+-- a segment in each n slots is one in each m slots, if n is at most m
+oftener : (n m : ℕ) (pick : Message → Option Fragment) (plan : List Broadcast) (now : ℕ) (input : Input) → n ≤ m
+    → HearsOneIn n pick plan now input → HearsOneIn m pick plan now input
+oftener n m pick plan now input more often k s t r b planned from to by_now heard before =
+    let w = often k s t r b planned from (omega (arith, more, to)) (omega (arith, more, by_now)) heard before in
+    record { slot = w.slot; origin = w.origin; heard = w.heard; since = w.since; until = omega (arith, w.until, more) }
+
+pub texts_are_safe : TheEncoderIsLawful → TextsByFlagAreOfTheirSource → WhoHearsOneInHearsEach
+    → TextsOfAStationAreOfTheirSource
+texts_are_safe lawful safe enough d now told r some slots first listens often =
+    let law = lawful d told some slots in
+    let moves = text_moves told in
+    let flags = turns d (slot_of moves - 1) moves in
+    let lasts = (keeps_each d (slot_of moves - 1) moves).1 first in
+    safe d now (station_plans d told).text (sent_log d told) r law.text (flags.0 (flags.1 first)) listens
+    ((enough d (2 * d) now text_fragment (station_plans d told).text r.input law.text.spaced often).1 lasts)
+
+pub names_are_safe : TheEncoderIsLawful → NamesByFlagAreOfTheirSource → WhoHearsOneInHearsEach
+    → NamesOfAStationAreOfTheirSource
+names_are_safe lawful safe enough d now told r some slots first listens often =
+    let law = lawful d told some slots in
+    let moves = name_moves told in
+    let flags = turns d (slot_of moves - 1) moves in
+    let lasts = (keeps_each d (slot_of moves - 1) moves).1 first in
+    safe d now (station_plans d told).name (sent_log d told) r law.name (flags.0 (flags.1 first)) listens
+    ((enough d (2 * d) now name_fragment (station_plans d told).name r.input law.name.spaced often).1 lasts)
+
+pub tags_are_safe : TheEncoderIsLawful → TagsByFlagAreOfTheirText → WhoHearsOneInHearsEach
+    → WhoHearsOneInHearsTextBeforeTags → TagsOfAStationAreOfTheirText
+tags_are_safe lawful safe enough before_tags d now told r some slots first listens often =
+    let law = lawful d told some slots in
+    let moves = text_moves told in
+    let flags = turns d (slot_of moves - 1) moves in
+    let lasts = (keeps_each d (slot_of moves - 1) moves).1 first in
+    safe d now (station_plans d told).text (sent_log d told) r law.text (flags.0 (flags.1 first)) listens
+    ((enough d (2 * d) now text_fragment (station_plans d told).text r.input law.text.spaced
+    (oftener d (2 * d) text_fragment (station_plans d told).text now r.input (omega arith) often)).1 lasts)
+    (before_tags d now (station_plans d told).text (sent_log d told) r law.text listens often)
+
+pub texts_are_new : TheEncoderIsLawful → TextsByFlagAreNew → WhoHearsOneInHearsEach → TextsOfAStationAreNew
+texts_are_new lawful new enough d now told r some slots listens often =
+    let law = lawful d told some slots in
+    let lasts = keeps_each d (slot_of (text_moves told) - 1) (text_moves told) in
+    let each = enough d (2 * d) now text_fragment (station_plans d told).text r.input law.text.spaced often in
+    let is_new = new d now (station_plans d told).text (sent_log d told) r law.text listens in
+    (λ first. is_new.0 (each.0 (lasts.0 first)), λ first. is_new.1 (each.1 (lasts.1 first)))
+
+pub names_are_new : TheEncoderIsLawful → NamesByFlagAreNew → WhoHearsOneInHearsEach → NamesOfAStationAreNew
+names_are_new lawful new enough d now told r some slots listens often =
+    let law = lawful d told some slots in
+    let lasts = keeps_each d (slot_of (name_moves told) - 1) (name_moves told) in
+    let each = enough d (2 * d) now name_fragment (station_plans d told).name r.input law.name.spaced often in
+    let is_new = new d now (station_plans d told).name (sent_log d told) r law.name listens in
+    (λ first. is_new.0 (each.0 (lasts.0 first)), λ first. is_new.1 (each.1 (lasts.1 first)))
+
+-- ---- a restart mixes if another text than the empty one comes first after it, for d = 1
+
+abbrev slot : Command → Event
+slot command = record { command = command; free = true; receptions = [] }
+
+abbrev events : List Event
+events = slot (SetText newer_text) ∷ slot Restart ∷ slot Quiet ∷ slot Quiet ∷ slot (SetText older_text) ∷ slot Quiet
+    ∷ []
+
+abbrev older : Broadcast
+older = record { start = 1; end = 3; flag = false; bytes = older_text }
+
+abbrev newer : Broadcast
+newer = record { start = 5; end = 5; flag = false; bytes = newer_text }
+
+abbrev first_of_newer : Option Message
+first_of_newer = Some (Text false 0 (four 66))
+
+abbrev last_of_older : Option Message
+last_of_older = Some (Text false 1 (three_and_end 67))
+
+abbrev sent : List (Option Message)
+sent = first_of_newer ∷ None ∷ last_of_older ∷ None ∷ Some (Text false 0 (four 65)) ∷ None ∷ []
+
+-- the receiver got each slot
+abbrev input : Input
+input = input_of 0 sent (own_origins 0 sent)
+
+late : IsHeardLate 0 sent input
+late = no_slot_late sent 0 sent (λ t entry has. inr has)
+
+by_now : (t s : ℕ) → CameFrom input t s → s ≤ 5
+by_now t s came = omega (arith, late.past t s came, before_end 0 (own_origins 0 sent) t (Some s) came)
+
+abbrev mix : List ℕ
+mix = text_of_two 66 67
+
+-- the segments of slots 1 and 3, and that of slot 5 in place of the first
+abbrev until_slot_3 : Cells
+until_slot_3 = insert (insert empty 0 (four 65)) 1 (three_and_end 67)
+
+abbrev both : Cells
+both = insert until_slot_3 0 (four 66)
+
+both_held : (a : ℕ) → a < 2 → get both a ≡ Some (segment_of (text_body mix) a)
+both_held a h = grind (arith, get-put, four, three_and_end)
+
+abbrev view : ShownView
+view = record { text = Some mix; name = None; item = None; one = None; two = None }
+
+shows : ShowsByFlag input view
+shows = record {
+  text = all_text both mix (is_text 66 67 (omega arith) (omega arith) refl refl) record { held = both_held };
+  name = no_name_of_none;
+  item = refl;
+  one = refl;
+  two = refl;
+}
+
+of_none : (k : ℕ) (b : Broadcast) → HasNumber (newer ∷ older ∷ []) k b → b.bytes ≡ mix → ⊥
+of_none k b last same = grind arith
+
+pub a_restart_mixes : MixesAStation 1
+a_restart_mixes = record {
+  events = events;
+  values = search (arith, is_text);
+  now = 5;
+  receiver = record { input = input; view = view };
+  listens = record { order = late.order; past = by_now; shows = shows };
+  got = (refl, refl, λ t s came. omega (arith, late.past t s came, late.late t s came));
+  mix = mix;
+  shown = refl;
+  of_none = of_none;
+}
+
+-- ---- with the empty text between, as the premise asks

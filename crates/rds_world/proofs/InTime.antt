@@ -1,7 +1,7 @@
 -- Lemmas: each message that a receiver of a world got was sent at most k slots before or is wrong, if its receptions
 -- are due.
-use Rattle.std.proofs.Common.{◌≡◌, ◌+◌, ◌-◌, ◌<◌, ◌≤◌, ℕ, zero, suc, List, [], ◌∷◌, Option, Some, None, refl}
-use Rattle.std.proofs.Common.{inl, arith, length}
+use Rattle.std.proofs.Common.{◌≡◌, ◌+◌, ◌-◌, ◌<◌, ◌≤◌, ℕ, zero, suc, List, [], ◌∷◌, Option, Some, None, refl, inl}
+use Rattle.std.proofs.Common.{arith, length}
 use Rattle.std.specs.Prelude.{IfSome, slice_index_or}
 use Rattle.rds_fields.specs.declared.message.Message.{Message}
 use Rattle.rds_world.specs.declared.event.Reception.{Reception}
@@ -11,8 +11,7 @@ use Rattle.rds_world.specs.Event.{Event}
 use Rattle.rds_safety.specs.Late.{CameFrom, HasEntry, Input, SentIn}
 use Rattle.rds_safety.specs.Confirmed.{IsHeardWithWrong}
 use Rattle.rds_world.specs.Slots.{input_of, log, received, sent_at, sent_back}
-use Rattle.rds_safety.proofs.Entries.{before_end}
-use Rattle.rds_safety.proofs.OnTime.{IsSoon}
+use Rattle.rds_safety.proofs.Entries.{before_end, IsSoon}
 
 -- the entry with this origin is that of the log; without an origin it may be wrong
 abbrev IsSaid : List (Option Message) → Option ℕ → Option Message → Type 0

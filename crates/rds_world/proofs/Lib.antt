@@ -1,15 +1,9 @@
-pub mod Received
-pub mod DueSteps
-pub mod Stepped
 pub mod LawfulStation
 pub mod WorldSlots
 pub mod InTime
-pub mod NoneWrong
-pub mod Pasts
+pub mod Received
 pub mod SafeWorld
 pub mod StationDelivered
 pub mod Delivered
 pub mod FlagStation
-pub mod FlagSafeStation
-pub mod RestartMixes
 pub mod WorkedRows

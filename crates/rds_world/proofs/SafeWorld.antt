@@ -26,7 +26,7 @@ use Rattle.rds_world.specs.State.{WorldState, distance}
 use Rattle.rds_world.specs.declared.world.Config.{Config}
 use Rattle.rds_world.specs.Station.{TheEncoderIsLawful}
 use Rattle.rds_world.specs.Wrong.{AreFit, KeepsPremise}
-use Rattle.rds_world.proofs.NoneWrong.{each_is_late, keeps_premise}
+use Rattle.rds_world.proofs.Received.{each_is_late, keeps_premise}
 use Rattle.rds_world.proofs.WorldSlots.{events_are_lawful}
 use Rattle.rds_world.proofs.InTime.{in_time, input_reaches}
 

@@ -9,8 +9,8 @@ use Rattle.rds_assembly.specs.OwnSegments.{all_name, all_text}
 use Rattle.rds_assembly.specs.Value.{IsName, IsText}
 use Rattle.rds_assembly.specs.Whole.{IsWholeName, IsWholeText}
 use Rattle.rds_encoder.specs.Delivery.{ANameIsSentWhole, ATextIsSentWhole, IsOnThroughout, IsSentAmong, free_in}
-use Rattle.rds_encoder.specs.Entries.{Entry, Restart, SetText, SetName, Tick, Move, Begin, Set, End}
-use Rattle.rds_encoder.specs.Entries.{name_moves, slot_of, text_moves}
+use Rattle.rds_encoder.specs.Entries.{Entry, Restart, SetText, SetName, Tick, Move, Begin, Set, End, name_moves}
+use Rattle.rds_encoder.specs.Entries.{slot_of, text_moves}
 use Rattle.rds_encoder.specs.Laws.{OnlyWhatIsOnAirCoversTheSlot, WhatIsOnAirWasOnAir}
 use Rattle.rds_encoder.specs.Plan.{Broadcast, HasNumber, OnAir, endless, on_air, plan_of}
 use Rattle.rds_encoder.specs.Sent.{one_if, sent_in, sent_log}
@@ -22,13 +22,12 @@ use Rattle.rds_safety.specs.Laws.{PlanLaws}
 use Rattle.rds_safety.specs.Marks.{name_mark, text_mark}
 use Rattle.rds_safety.specs.Plans.{AreLawful}
 use Rattle.rds_safety.specs.Safe.{Listener}
-use Rattle.rds_safety.proofs.Bytes.{name_service, names_send_their_body, text_service, texts_send_their_body}
-use Rattle.rds_safety.proofs.Counts.{one_segment, two_segments}
+use Rattle.rds_safety.proofs.OneBroadcast.{name_service, names_send_their_body, text_service, texts_send_their_body}
+use Rattle.rds_safety.proofs.Safety.{one_segment, two_segments, name_fragments_marked, text_fragments_marked}
 use Rattle.rds_safety.proofs.Entries.{one_origin}
-use Rattle.rds_safety.proofs.FlagSlots.{came_as_sent}
+use Rattle.rds_safety.proofs.FlagRuns.{came_as_sent}
 use Rattle.rds_safety.proofs.HeldWhole.{CameSince, came_in, in_segments, shown_whole}
-use Rattle.rds_safety.proofs.Safety.{name_fragments_marked, text_fragments_marked}
-use Rattle.rds_safety.proofs.Bodies.{text_few}
+use Rattle.rds_safety.proofs.Padded.{text_few}
 use Rattle.rds_world.specs.Delivery.{AStationDeliversAName, AStationDeliversAText, AStationDeliversAnyText}
 use Rattle.rds_world.specs.Delivery.{GotOfStation, LieInBroadcast}
 use Rattle.rds_world.specs.Station.{EndsASlot, IsFreeIn, TheEncoderIsLawful, slots_in, station_plans}

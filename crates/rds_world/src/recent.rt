@@ -63,6 +63,7 @@ impl Recent {
 
     /// Returns the group sent this many slots before the newest one. `None` if nothing was sent, or if the ring does
     /// not go back so far.
+    #[tactic(auto, using(std::proofs::lemmas::Bool::Decides::nat_tests, std::proofs::lemmas::Option::get_or_from_slice_get, crate::proofs::Received::nothing_there))]
     pub(crate) fn back(&self, slots: u16) -> Option<Blocks>
         ensures { result ≡ slice_index_or self.now.items slots None }
     {

@@ -19,6 +19,7 @@ use rds_encoder::{
 use rds_safety::{often_is_enough, safe_by_plans, safe_by_the_flag, safe_if_confirmed};
 
 /// States that the messages of an encoder are lawful for its plans, whatever it sets in its slots.
+#[tactic(auto, using(std::proofs::lemmas::Bool::Decides::nat_tests, crate::proofs::LawfulStation::lawful_station))]
 pub fn the_encoder_is_lawful()
     ensures { TheEncoderIsLawful }
 {
@@ -39,6 +40,7 @@ pub fn a_station_is_safe()
 }
 
 /// States the headline: the receivers of each world show only what was on air.
+#[tactic(auto, using(crate::proofs::SafeWorld::safe_world))]
 pub fn only_what_was_on_air_is_shown()
     ensures { EveryWorldShowsOnlyWhatWasOnAir }
 {
@@ -49,6 +51,7 @@ pub fn only_what_was_on_air_is_shown()
 
 /// States that a world refuses exactly the wrong groups that break the premise: any without a window; with a window of
 /// W slots a segment or a pair of tags that was wrong less than W slots before.
+#[tactic(auto, using(crate::proofs::Received::fit_keeps))]
 pub fn what_is_fit_keeps_the_premise()
     ensures { TheFitKeepThePremise }
 {}

@@ -9,8 +9,11 @@ use rds_arrivals::{Break, LastMinute, slots_in};
 /// first reads do is live.
 pub(crate) const FIRST: u64 = 512;
 
+/// A second in microseconds.
+const SECOND: u64 = 1_000_000;
+
 /// A second in slots, rounded up. Times may be whole seconds.
-const SECOND: u64 = 12;
+const SECOND_IN_SLOTS: u64 = 12;
 
 /// By how much a log has too few lines (this project's own rule).
 #[derive(Clone, Copy)]
@@ -60,7 +63,7 @@ impl LogTimes {
         if self.first.is_none() || self.has_fraction {
             return None;
         }
-        Some(SECOND)
+        Some(SECOND_IN_SLOTS)
     }
 
     /// Takes the line of a slot with this number and these first bytes.
@@ -77,7 +80,7 @@ impl LogTimes {
             self.first = Some(stamp.time);
         }
         self.newest = stamp.time;
-        self.has_fraction = self.has_fraction || stamp.time % 1_000_000 != 0;
+        self.has_fraction = self.has_fraction || stamp.time % SECOND != 0;
         self.lines = number;
     }
 
@@ -99,13 +102,17 @@ impl LogTimes {
 
     /// Returns by how much the log is too short for its times, up to its newest time.
     pub fn lack_so_far(&self) -> Option<Lack> {
-        self.lack_of(self.lines, true, SECOND)
+        self.lack_of(self.lines, true, SECOND_IN_SLOTS)
     }
 
     /// Returns the same, also if so many slots are missing or one fewer, two at least: times are rounded, and a group
     /// may come a slot late.
     pub fn lack_of_some(&self, few: u64) -> Option<Lack> {
-        self.lack_of(self.lines, true, few.saturating_sub(2).max(1).min(SECOND))
+        self.lack_of(
+            self.lines,
+            true,
+            few.saturating_sub(2).max(1).min(SECOND_IN_SLOTS),
+        )
     }
 
     /// Returns by how much a log of so many slots is too short for its times. After a break its start decides.
@@ -113,7 +120,7 @@ impl LogTimes {
         if self.is_broken {
             self.lack_so_far()
         } else {
-            self.lack_of(slots, false, SECOND)
+            self.lack_of(slots, false, SECOND_IN_SLOTS)
         }
     }
 

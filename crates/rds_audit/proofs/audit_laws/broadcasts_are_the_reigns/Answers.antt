@@ -1,6 +1,6 @@
 use Rattle.rds_safety.specs.Lawful.{names}
 use Rattle.rds_audit.specs.Forms.{text_kind}
-use Rattle.rds_audit.proofs.Among.{the_reigns}
+use Rattle.rds_audit.proofs.PassedLogs.{the_reigns}
 use Rattle.rds_audit.proofs.audit_laws.broadcasts_are_the_reigns.Goals as goal
 
 pub returns-clause-texts : goal.returns-clause-texts

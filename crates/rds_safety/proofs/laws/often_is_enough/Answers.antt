@@ -1,4 +1,4 @@
-use Rattle.rds_safety.proofs.FlagSlots.{gets_some, hears_each, hears_one_in, hears_text_before_tags}
+use Rattle.rds_safety.proofs.FlagRuns.{gets_some, hears_each, hears_one_in, hears_text_before_tags}
 use Rattle.rds_safety.proofs.laws.often_is_enough.Goals as goal
 
 pub returns-clause-each : goal.returns-clause-each

@@ -1,4 +1,4 @@
-use Rattle.rds_safety.proofs.OnTime.{each_on_time, no_slot_late}
+use Rattle.rds_safety.proofs.Entries.{each_on_time, no_slot_late}
 use Rattle.rds_safety.proofs.laws.on_time.Goals as goal
 
 pub returns-clause-each : goal.returns-clause-each

@@ -1,4 +1,4 @@
-use Rattle.rds_safety.proofs.Sources.{one_source}
+use Rattle.rds_safety.proofs.OneBroadcast.{one_source}
 use Rattle.rds_safety.proofs.laws.one_source.Goals as goal
 
 pub returns : goal.returns

@@ -1,4 +1,4 @@
-use Rattle.rds_safety.proofs.OwnClocks.{late_is_slow, slow_is_own, true_clock}
+use Rattle.rds_safety.proofs.Entries.{late_is_slow, slow_is_own, true_clock}
 use Rattle.rds_safety.proofs.laws.own_clocks.Goals as goal
 
 pub returns-clause-slow : goal.returns-clause-slow

@@ -1,6 +1,6 @@
 use Rattle.rds_safety.proofs.Safety.{are_safe, are_safe_by_own_clocks, are_safe_by_slow_clocks, are_safe_late}
 use Rattle.rds_safety.specs.Lawful.{texts}
-use Rattle.rds_safety.proofs.Bytes.{text_service}
+use Rattle.rds_safety.proofs.OneBroadcast.{text_service}
 use Rattle.rds_safety.proofs.laws.safe_by_plans.Goals as goal
 
 pub returns-clause-near : goal.returns-clause-near

@@ -1,8 +1,7 @@
-use Rattle.rds_safety.proofs.Safety.{are_safe_confirmed}
+use Rattle.rds_safety.proofs.Safety.{are_safe_confirmed, name_shown_twice, text_shown_twice}
 use Rattle.rds_safety.proofs.Confirmed.{confirmed_listens}
-use Rattle.rds_safety.proofs.ConfirmedDelivery.{name_shown_twice, text_shown_twice}
 use Rattle.rds_safety.specs.Lawful.{texts}
-use Rattle.rds_safety.proofs.Bytes.{text_service}
+use Rattle.rds_safety.proofs.OneBroadcast.{text_service}
 use Rattle.rds_safety.proofs.laws.safe_if_confirmed.Goals as goal
 
 pub returns-clause-near : goal.returns-clause-near

@@ -1,4 +1,4 @@
-use Rattle.rds_safety.proofs.FlagSlots.{long_dwell, while_heard}
+use Rattle.rds_safety.proofs.FlagRuns.{long_dwell, while_heard}
 use Rattle.rds_safety.proofs.laws.the_flag_alone_is_a_long_dwell.Goals as goal
 
 pub returns : goal.returns

@@ -1,5 +1,5 @@
 use Rattle.rds_wire.proofs.Filling.{filled_is_received}
-use Rattle.rds_wire.proofs.Losing.{lost_is_received, lost_is_received_for_two}
+use Rattle.rds_wire.proofs.Twice.{lost_is_received, lost_is_received_for_two}
 use Rattle.rds_wire.proofs.laws.what_is_received.Goals as goal
 
 pub returns-clause-lost : goal.returns-clause-lost

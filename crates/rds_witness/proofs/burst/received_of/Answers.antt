@@ -3,7 +3,7 @@ use Rattle.std.proofs.Common.{◌≡◌, arith}
 use Rattle.std.proofs.Math.Seq.{take-length}
 use Rattle.std.proofs.lemmas.List.{with_items_is}
 use Rattle.std.specs.Prelude.{length}
-use Rattle.rds_witness.proofs.Losses.{burst_more}
+use Rattle.rds_witness.proofs.Rulings.{burst_more}
 use Rattle.rds_witness.proofs.burst.received_of.Goals as goal
 
 pub loop-place-init : goal.loop-place-init

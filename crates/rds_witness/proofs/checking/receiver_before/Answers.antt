@@ -1,7 +1,7 @@
 use Rattle.std.proofs.lemmas.Bool.Decides.{nat_tests}
 use Rattle.std.proofs.Common.{◌≡◌, arith}
 use Rattle.rds_witness.specs.Lost.{got-none}
-use Rattle.rds_witness.proofs.Slots.{stands_more}
+use Rattle.rds_witness.proofs.Mixes.{stands_more}
 use Rattle.rds_witness.proofs.checking.receiver_before.Goals as goal
 
 pub loop-n-init : goal.loop-n-init

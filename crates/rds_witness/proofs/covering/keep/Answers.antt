@@ -3,7 +3,7 @@ use Rattle.std.specs.List.{Contains}
 use Rattle.std.proofs.lemmas.List.Elements.{All-push}
 use Rattle.rds_receiver.specs.Receipts.{tuned}
 use Rattle.rds_witness.specs.Search.{IsChecked}
-use Rattle.rds_witness.proofs.KeptReceivers.{contains_next, keeps_more, keeps_part}
+use Rattle.rds_witness.proofs.HeldParts.{contains_next, keeps_more, keeps_part}
 use Rattle.rds_witness.proofs.covering.keep.Goals as goal
 
 pub returns-then-is_receiver_part-clause-covers : goal.returns-then-is_receiver_part-clause-covers

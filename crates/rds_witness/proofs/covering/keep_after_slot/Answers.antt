@@ -3,7 +3,7 @@ use Rattle.std.proofs.Common.{◌≡◌, ◌+◌, ◌∷◌, arith, get_or, inl,
 use Rattle.std.proofs.lemmas.Bool.{cases_lt}
 use Rattle.rds_receiver.specs.Receipts.{tuned}
 use Rattle.rds_witness.specs.declared.covering.Lossy.{Lossy}
-use Rattle.rds_witness.proofs.KeptReceivers.{at_next, covers_next}
+use Rattle.rds_witness.proofs.HeldParts.{at_next, covers_next}
 use Rattle.rds_witness.proofs.covering.keep_after_slot.Goals as goal
 
 pub loop-place-init : goal.loop-place-init

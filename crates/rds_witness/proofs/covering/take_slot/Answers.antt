@@ -1,4 +1,4 @@
-use Rattle.rds_witness.proofs.SameState.{only_stays}
+use Rattle.rds_witness.proofs.Rulings.{only_stays}
 use Rattle.rds_witness.proofs.covering.take_slot.Goals as goal
 
 pub returns-in_default-clause-same : goal.returns-in_default-clause-same

@@ -1,7 +1,6 @@
 use Rattle.rds_receiver.specs.Receipts.{name_fragment, text_fragment}
 use Rattle.rds_receiver.specs.Run.{cells_of, run_at}
-use Rattle.rds_witness.proofs.PartSteps.{part_cells, part_heard, whole_name, whole_text}
-use Rattle.rds_witness.proofs.TagParts.{tag_part_heard}
+use Rattle.rds_witness.proofs.HeldParts.{part_cells, part_heard, whole_name, whole_text, tag_part_heard}
 use Rattle.rds_witness.proofs.laws.a_part_shows_no_more.Goals as goal
 
 pub returns-clause-stays : goal.returns-clause-stays

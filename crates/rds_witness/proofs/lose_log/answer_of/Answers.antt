@@ -1,6 +1,6 @@
 use Rattle.std.proofs.Common.{◌≡◌, arith, length, refl}
 use Rattle.std.proofs.lemmas.Bool.Decides.{nat_tests}
-use Rattle.rds_witness.proofs.LossSteps.{empty_list, no_loss_mix}
+use Rattle.rds_witness.proofs.Mixes.{empty_list, no_loss_mix}
 use Rattle.rds_witness.proofs.lose_log.answer_of.Goals as goal
 
 pub returns-then-is_empty : goal.returns-then-is_empty

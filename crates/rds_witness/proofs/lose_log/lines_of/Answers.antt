@@ -1,6 +1,6 @@
 use Rattle.rds_receiver.specs.Receipts.{tuned}
 use Rattle.rds_witness.specs.Lost.{got-none}
-use Rattle.rds_witness.proofs.LossSteps.{adds_first}
+use Rattle.rds_witness.proofs.Mixes.{adds_first}
 use Rattle.rds_witness.proofs.lose_log.lines_of.Goals as goal
 
 pub loop-slot-init : goal.loop-slot-init

@@ -2,9 +2,7 @@ use Rattle.std.proofs.Common.{◌++◌, ◌∙◌, ℕ, [], List, ap, sym}
 use Rattle.std.proofs.lemmas.List.{append-nil}
 use Rattle.rds_receiver.specs.Receipts.{tuned}
 use Rattle.rds_witness.specs.Lost.{got-more}
-use Rattle.rds_witness.proofs.LossSteps.{adds_slot, stays_none}
-use Rattle.rds_witness.proofs.Mixes.{no_mixes}
-use Rattle.rds_witness.proofs.Slots.{stands_more}
+use Rattle.rds_witness.proofs.Mixes.{adds_slot, stays_none, no_mixes, stands_more}
 use Rattle.rds_witness.proofs.lose_log.play_slot.Goals as goal
 
 pub returns-then-not-changed-clause-stands : goal.returns-then-not-changed-clause-stands

@@ -7,12 +7,9 @@ use Rattle.rds_witness.specs.Lost.{got}
 use Rattle.rds_witness.specs.Mix.{until}
 use Rattle.rds_witness.specs.Search.{ShowOnlySeen, ShowsOnlySeen}
 use Rattle.rds_witness.specs.declared.covering.Lossy.{Lossy}
-use Rattle.rds_witness.proofs.HeldParts.{same_part}
-use Rattle.rds_witness.proofs.KeptReceivers.{input_through}
-use Rattle.rds_witness.proofs.Losses.{got_long}
+use Rattle.rds_witness.proofs.HeldParts.{same_part, input_through}
+use Rattle.rds_witness.proofs.Rulings.{got_long, only_later, until_later, no_mix, now_before_until}
 use Rattle.std.proofs.lemmas.List.Elements.{All-nil}
-use Rattle.rds_witness.proofs.SameState.{only_later, until_later}
-use Rattle.rds_witness.proofs.Rulings.{no_mix, now_before_until}
 use Rattle.rds_witness.proofs.search.find.Goals as goal
 
 pub loop-slot-init : goal.loop-slot-init

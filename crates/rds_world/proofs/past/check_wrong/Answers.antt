@@ -1,7 +1,6 @@
 use Rattle.std.proofs.Common.{arith}
 use Rattle.std.proofs.lemmas.Option.{slice_get_read}
-use Rattle.rds_world.proofs.DueSteps.{same_reception}
-use Rattle.rds_world.proofs.Pasts.{breaks_by, fit_past}
+use Rattle.rds_world.proofs.Received.{same_reception, breaks_by, fit_past}
 use Rattle.rds_world.proofs.past.check_wrong.Goals as goal
 
 pub loop-i-init : goal.loop-i-init

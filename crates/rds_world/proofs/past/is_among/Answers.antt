@@ -5,7 +5,7 @@ use Rattle.std.specs.Prelude.{slice_get}
 use Rattle.std.proofs.lemmas.Option.{get_or_from_slice_get, slice_get_read}
 use Rattle.rds_fields.specs.contracts.message.MessagePartialEq.TheImpl.{eq-value}
 use Rattle.rds_fields.specs.declared.message.Message.{Message}
-use Rattle.rds_world.proofs.Pasts.{same_by_test}
+use Rattle.rds_world.proofs.Received.{same_by_test}
 use Rattle.rds_world.proofs.past.is_among.Goals as goal
 
 pub returns-in-Some-Some : goal.returns-in-Some-Some

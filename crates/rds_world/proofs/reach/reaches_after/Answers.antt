@@ -5,8 +5,7 @@ use Rattle.std.proofs.lemmas.Bool.{cases_lt}
 use Rattle.std.proofs.lemmas.Option.{slice_get_read}
 use Rattle.rds_world.specs.declared.event.Reception.{Reception}
 use Rattle.rds_world.specs.Due.{last_named}
-use Rattle.rds_world.proofs.DueSteps.{due_past, named_past, same_reception}
-use Rattle.rds_world.proofs.Received.{of_first, written}
+use Rattle.rds_world.proofs.Received.{due_past, named_past, same_reception, of_first, written}
 use Rattle.rds_world.proofs.reach.reaches_after.Goals as goal
 
 pub loop-i-init : goal.loop-i-init

@@ -1,6 +1,6 @@
 use Rattle.std.proofs.Common.{subst}
 use Rattle.rds_world.specs.WorldAt.{AllHaveHeard, all_received}
-use Rattle.rds_world.proofs.Stepped.{front_is}
+use Rattle.rds_world.proofs.Received.{front_is}
 use Rattle.rds_world.proofs.receivers.hand_out_first.Goals as goal
 
 pub returns-clause-heard : goal.returns-clause-heard

@@ -1,6 +1,5 @@
 use Rattle.std.proofs.Common.{arith}
-use Rattle.rds_world.proofs.FlagSafeStation.{names_are_new, names_are_safe, tags_are_safe, texts_are_new}
-use Rattle.rds_world.proofs.FlagSafeStation.{texts_are_safe}
+use Rattle.rds_world.proofs.FlagStation.{names_are_new, names_are_safe, tags_are_safe, texts_are_new, texts_are_safe}
 use Rattle.rds_world.proofs.station_laws.a_station_is_safe_by_the_flag.Goals as goal
 
 pub returns-clause-texts : goal.returns-clause-texts

@@ -3,8 +3,8 @@ use Rattle.std.proofs.lemmas.Bool.Decides.{nat_tests}
 use Rattle.rds_fields.specs.declared.message.Message.TheVariants.{Tags}
 use Rattle.rds_receiver.specs.Receipts.{name_of, text_of}
 use Rattle.rds_audit.proofs.ListingSteps.{names_listed, nothing_listed, text_open, texts_listed}
-use Rattle.rds_audit.proofs.Recordings.{announcement_counts, name_counts, tags_complete, tags_count}
-use Rattle.rds_audit.proofs.Recordings.{tags_silent, text_counts}
+use Rattle.rds_audit.proofs.SpanSteps.{announcement_counts, name_counts, tags_complete, tags_count, tags_silent}
+use Rattle.rds_audit.proofs.SpanSteps.{text_counts}
 use Rattle.rds_audit.proofs.audit.Audit.hear.Goals as goal
 
 pub returns-in-Text-clause-lists : goal.returns-in-Text-clause-lists

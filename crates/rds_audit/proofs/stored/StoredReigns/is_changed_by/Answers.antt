@@ -1,7 +1,7 @@
 use Rattle.std.proofs.Common.{◌≡◌, ◌∙◌, ap, not, rules, sym}
 use Rattle.rds_audit.specs.declared.audited.Measured.{Measured}
 use Rattle.rds_audit.specs.Stored.{content_stored}
-use Rattle.rds_audit.proofs.Measures.{other_changes, same_changes}
+use Rattle.rds_audit.proofs.LengthSets.{other_changes, same_changes}
 use Rattle.rds_audit.proofs.stored.StoredReigns.is_changed_by.Goals as goal
 
 pub returns-then-eq : goal.returns-then-eq

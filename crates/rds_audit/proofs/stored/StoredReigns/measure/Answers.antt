@@ -1,7 +1,7 @@
 use Rattle.std.proofs.Common.{◌≡◌, Some, arith, rules}
 use Rattle.std.proofs.lemmas.Bool.Decides.{nat_tests}
 use Rattle.rds_audit.specs.Stored.{content_stored}
-use Rattle.rds_audit.proofs.Measures.{measures_held, measures_other}
+use Rattle.rds_audit.proofs.LengthSets.{measures_held, measures_other}
 use Rattle.rds_audit.proofs.stored.StoredReigns.measure.Goals as goal
 
 pub returns-then-eq : goal.returns-then-eq

@@ -1,8 +1,7 @@
 use Rattle.std.proofs.Common.{arith, ◌∙◌, sym}
 use Rattle.std.proofs.lemmas.Bool.Decides.{nat_tests}
 use Rattle.rds_encoder.specs.Entries.{name_moves}
-use Rattle.rds_encoder.proofs.Replies.{names_after_silence, names_in_silence, passed_on}
-use Rattle.rds_encoder.proofs.Sets.{name_accepted}
+use Rattle.rds_encoder.proofs.Turns.{names_after_silence, names_in_silence, passed_on, name_accepted}
 use Rattle.rds_encoder.proofs.encoder.Encoder.set_name.Goals as goal
 
 pub returns-in_err-check_silence-clause-reply : goal.returns-in_err-check_silence-clause-reply

@@ -1,6 +1,6 @@
 use Rattle.std.proofs.Common.{arith}
 use Rattle.std.proofs.lemmas.Bool.Decides.{nat_tests}
-use Rattle.rds_encoder.proofs.Replies.{passed_on}
+use Rattle.rds_encoder.proofs.Turns.{passed_on}
 use Rattle.rds_encoder.proofs.encoder.Encoder.set_tags.Goals as goal
 
 pub returns-in_err-check_tags-clause-reply : goal.returns-in_err-check_tags-clause-reply

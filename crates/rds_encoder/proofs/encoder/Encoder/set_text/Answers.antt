@@ -1,8 +1,7 @@
 use Rattle.std.proofs.Common.{arith, ◌≡◌, ◌∙◌, Ok}
 use Rattle.rds_encoder.specs.Entries.{text_moves}
 use Rattle.rds_encoder.specs.Reply.{reply_to}
-use Rattle.rds_encoder.proofs.Replies.{silence_over}
-use Rattle.rds_encoder.proofs.Sets.{text_accepted}
+use Rattle.rds_encoder.proofs.Turns.{silence_over, text_accepted}
 use Rattle.rds_encoder.proofs.encoder.Encoder.set_text.Goals as goal
 
 pub returns-clause-stands : goal.returns-clause-stands

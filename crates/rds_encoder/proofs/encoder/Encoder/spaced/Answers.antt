@@ -1,8 +1,7 @@
 use Rattle.std.proofs.Common.{◌+◌, arith}
 use Rattle.rds_encoder.specs.Entries.{name_moves, slot_of, text_moves}
 use Rattle.rds_encoder.specs.Sent.{is_free}
-use Rattle.rds_encoder.proofs.Groups.{head_back}
-use Rattle.rds_encoder.proofs.Turns.{none_yet}
+use Rattle.rds_encoder.proofs.Turns.{head_back, none_yet}
 use Rattle.rds_encoder.proofs.encoder.Encoder.spaced.Goals as goal
 
 pub returns-clause-first : goal.returns-clause-first

@@ -1,5 +1,5 @@
 use Rattle.std.proofs.Common.{arith}
-use Rattle.rds_encoder.proofs.Groups.{group_sent}
+use Rattle.rds_encoder.proofs.Turns.{group_sent}
 use Rattle.rds_encoder.proofs.encoder.Encoder.tick.Goals as goal
 
 pub returns-in_err-message-clause-sent : goal.returns-in_err-message-clause-sent

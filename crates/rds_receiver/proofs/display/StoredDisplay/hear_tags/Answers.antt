@@ -5,8 +5,7 @@ use Rattle.std.proofs.lemmas.Bool.Decides.{nat_tests}
 use Rattle.rds_receiver.specs.Holds.{HoldsAt}
 use Rattle.rds_receiver.specs.Stored.{display_stored}
 use Rattle.rds_receiver.proofs.Ages.{young}
-use Rattle.rds_receiver.proofs.Pairs.{is_held_pair}
-use Rattle.rds_receiver.proofs.Steps.{tags_heard}
+use Rattle.rds_receiver.proofs.Runs.{is_held_pair, tags_heard}
 use Rattle.rds_receiver.proofs.display.StoredDisplay.hear_tags.Goals as goal
 
 pub returns-then-eq-clause-holds : goal.returns-then-eq-clause-holds

@@ -1,8 +1,7 @@
 use Rattle.std.proofs.Common.{arith, ◌≡◌, ◌≢◌, None, refl}
 use Rattle.rds_receiver.specs.Stored.{age_stored, display_stored}
 use Rattle.rds_receiver.proofs.Ages.{age_taken}
-use Rattle.rds_receiver.proofs.Runs.{equal_or_not}
-use Rattle.rds_receiver.proofs.Steps.{text_heard_by}
+use Rattle.rds_receiver.proofs.Runs.{equal_or_not, text_heard_by}
 use Rattle.rds_receiver.proofs.display.StoredDisplay.hear_text.Goals as goal
 
 pub returns-clause-holds : goal.returns-clause-holds

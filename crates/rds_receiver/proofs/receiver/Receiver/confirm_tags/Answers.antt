@@ -1,7 +1,7 @@
 use Rattle.std.proofs.Common.{◌≡◌, ◌<◌, Some, true, false, refl, arith}
 use Rattle.rds_fields.specs.Stored.{pair_stored}
 use Rattle.rds_receiver.proofs.Ages.{none_held, some_held}
-use Rattle.rds_receiver.proofs.Pairs.{held_pair_is, is_held_pair}
+use Rattle.rds_receiver.proofs.Runs.{held_pair_is, is_held_pair}
 use Rattle.rds_receiver.proofs.ConfirmingSteps.{not_true, tags_confirmed}
 use Rattle.rds_receiver.proofs.receiver.Receiver.confirm_tags.Goals as goal
 

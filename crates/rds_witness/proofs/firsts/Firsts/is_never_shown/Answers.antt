@@ -1,7 +1,7 @@
 use Rattle.std.proofs.Common.{◌≡◌, ◌∙◌, None, Some, ap, refl, subst, sym}
 use Rattle.rds_witness.specs.Borrowed.{thing_of}
 use Rattle.rds_witness.specs.Firsts.{IsFirst, key_of, slot_at}
-use Rattle.rds_witness.proofs.FirstSlots.{is_not_before, never_before}
+use Rattle.rds_witness.proofs.Mixes.{is_not_before, never_before}
 use Rattle.rds_witness.proofs.firsts.Firsts.is_never_shown.Goals as goal
 
 pub returns-in-Some : goal.returns-in-Some

@@ -1,6 +1,6 @@
 use Rattle.std.proofs.Common.{◌≡◌, arith}
 use Rattle.rds_receiver.specs.Borrowed.{view_of}
-use Rattle.rds_witness.proofs.FirstSlots.{after_kinds, before_kinds}
+use Rattle.rds_witness.proofs.Mixes.{after_kinds, before_kinds}
 use Rattle.rds_witness.proofs.firsts.Firsts.note.Goals as goal
 
 pub loop-kind-init : goal.loop-kind-init

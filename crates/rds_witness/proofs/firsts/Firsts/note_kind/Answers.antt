@@ -4,7 +4,7 @@ use Rattle.std.specs.Prelude.{option_map}
 use Rattle.rds_receiver.specs.Borrowed.{view_of}
 use Rattle.rds_witness.specs.Borrowed.{thing_of}
 use Rattle.rds_witness.specs.Firsts.{IsFirstSoFar, key_of, slot_at}
-use Rattle.rds_witness.proofs.FirstSlots.{with_kind, without_kind}
+use Rattle.rds_witness.proofs.Mixes.{with_kind, without_kind}
 use Rattle.rds_witness.proofs.firsts.Firsts.note_kind.Goals as goal
 
 pub returns-in_default : goal.returns-in_default

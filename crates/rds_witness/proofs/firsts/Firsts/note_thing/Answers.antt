@@ -1,5 +1,5 @@
 use Rattle.std.proofs.Common.{◌∙◌, sym}
-use Rattle.rds_witness.proofs.FirstSlots.{kept_at, noted_at}
+use Rattle.rds_witness.proofs.Mixes.{kept_at, noted_at}
 use Rattle.rds_witness.proofs.firsts.Firsts.note_thing.Goals as goal
 
 pub returns-then-contains_key : goal.returns-then-contains_key

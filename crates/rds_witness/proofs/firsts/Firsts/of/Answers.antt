@@ -5,8 +5,7 @@ use Rattle.rds_receiver.specs.Shown.{IsView}
 use Rattle.rds_view_lines.specs.NoChange.{view_of_none}
 use Rattle.rds_witness.specs.Firsts.{AreFirsts}
 use Rattle.rds_witness.specs.Lost.{got, got-none}
-use Rattle.rds_witness.proofs.FirstSlots.{first_none, nothing_new, shows_none}
-use Rattle.rds_witness.proofs.Slots.{got_next, stands_more}
+use Rattle.rds_witness.proofs.Mixes.{first_none, nothing_new, shows_none, got_next, stands_more}
 use Rattle.rds_witness.proofs.firsts.Firsts.of.Goals.{then-changed+in_ok-note, else-changed}
 use Rattle.rds_witness.proofs.firsts.Firsts.of.Goals as goal
 

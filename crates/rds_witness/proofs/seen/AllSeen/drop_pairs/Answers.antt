@@ -1,5 +1,5 @@
 use Rattle.std.proofs.Common.{◌∙◌, arith}
-use Rattle.rds_witness.proofs.PairRuns.{same_run_of_log}
+use Rattle.rds_witness.proofs.HeldParts.{same_run_of_log}
 use Rattle.rds_witness.proofs.seen.AllSeen.drop_pairs.Goals as goal
 
 pub returns-else-not-goes_on-clause-pairs : goal.returns-else-not-goes_on-clause-pairs

@@ -6,7 +6,7 @@ use Rattle.rds_receiver.specs.Shown.{IsView, ShownView}
 use Rattle.rds_view_lines.specs.NoChange.{view_of_none}
 use Rattle.rds_witness.specs.Lost.{got, got-none}
 use Rattle.rds_witness.specs.Search.{HasViews, IsOfRun, IsSeen}
-use Rattle.rds_witness.proofs.Slots.{got_next, stands_more}
+use Rattle.rds_witness.proofs.Mixes.{got_next, stands_more}
 use Rattle.rds_witness.proofs.seen.AllSeen.of.Goals.{then-changed+in_ok-note, else-changed}
 use Rattle.rds_witness.proofs.seen.AllSeen.of.Goals as goal
 

@@ -11,8 +11,8 @@ use Rattle.rds_witness.specs.Lost.{got, got-more}
 use Rattle.rds_witness.specs.Search.{IsChecked}
 use Rattle.rds_witness.specs.declared.burst.Burst.{Burst}
 use Rattle.rds_witness.specs.declared.covering.Lossy.{Lossy}
-use Rattle.rds_witness.proofs.KeptReceivers.{at_first, at_next, by_first, covered_first, covers_itself, covers_next}
-use Rattle.rds_witness.proofs.Losses.{got_before, got_long, got_together, heard_next, lost_next}
+use Rattle.rds_witness.proofs.HeldParts.{at_first, at_next, by_first, covered_first, covers_itself, covers_next}
+use Rattle.rds_witness.proofs.Rulings.{got_before, got_long, got_together, heard_next, lost_next}
 use Rattle.rds_witness.proofs.sweep.Sweep.next.Goals as goal
 
 pub returns-clause-stands : goal.returns-clause-stands

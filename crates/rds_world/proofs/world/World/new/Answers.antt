@@ -1,7 +1,6 @@
 use Rattle.std.proofs.Common.{arith, rules, ◌≡◌, ◌∙◌, refl}
 use Rattle.rds_world.specs.WorldAt.{HeardNothing}
-use Rattle.rds_world.proofs.DueSteps.{at_first}
-use Rattle.rds_world.proofs.Received.{heard_nothing, one_of_first}
+use Rattle.rds_world.proofs.Received.{at_first, heard_nothing, one_of_first}
 use Rattle.rds_world.proofs.world.World.new.Goals as goal
 
 pub returns-clause-stands : goal.returns-clause-stands

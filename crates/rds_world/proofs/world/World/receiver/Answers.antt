@@ -1,4 +1,4 @@
-use Rattle.rds_world.proofs.Stepped.{shows_what_it_heard}
+use Rattle.rds_world.proofs.Received.{shows_what_it_heard}
 use Rattle.rds_world.proofs.world.World.receiver.Goals as goal
 
 pub returns-clause-shows : goal.returns-clause-shows

@@ -11,8 +11,7 @@ use Rattle.rds_world.specs.Slots.{commanded, entries, input_of, log, received}
 use Rattle.rds_world.specs.WorldAt.{AllHaveHeard, AreLastSent, HavePasts, HaveReaches, WorldAt}
 use Rattle.rds_world.specs.State.{WorldState, distance}
 use Rattle.rds_world.specs.Wrong.{IsFitToAll}
-use Rattle.rds_world.proofs.DueSteps.{one_more_sent}
-use Rattle.rds_world.proofs.Stepped.{by_own, stepped}
+use Rattle.rds_world.proofs.Received.{one_more_sent, by_own, stepped}
 use Rattle.rds_world.proofs.world.World.step.Goals as goal
 
 pub returns-clause-stands : goal.returns-clause-stands
