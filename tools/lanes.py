@@ -47,9 +47,10 @@ def longest_first(crates, uses):
 
 
 def most_jobs():
-    """Returns how many jobs may run at a time: one for each core, as far as there is free memory for them."""
+    """Returns how many jobs may run at a time, as far as there is free memory for them: one for each core, and one more. A crate
+    keeps the jobs that it began with, so without that one a core waits while the crates that remain have a job each."""
     free = int(re.search(r"MemAvailable: *(\d+) kB", pathlib.Path("/proc/meminfo").read_text(encoding="ascii")).group(1))
-    return max(1, min(len(os.sched_getaffinity(0)), free // MEMORY))
+    return max(1, min(len(os.sched_getaffinity(0)) + 1, free // MEMORY))
 
 
 class Call(NamedTuple):
