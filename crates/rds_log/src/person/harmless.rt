@@ -150,8 +150,16 @@ impl Changes {
     }
 
     /// Takes a new segment of the current text or name, of which the audit has this, and the faults of its slot. M + K
-    /// slots after a segment no receiver has that any more.
-    fn take(&mut self, slot: u64, spans: StoredSpans, spacing: u32, found: FaultSet) {
+    /// slots after a segment no receiver has that any more. Only a text with padding can have two segments of one
+    /// address.
+    fn take(
+        &mut self,
+        slot: u64,
+        spans: &StoredSpans,
+        spacing: u32,
+        is_padded: bool,
+        found: FaultSet,
+    ) {
         self.puts = spans.puts;
         if spans.count != self.number {
             let since_last = spans.reigns.since_before.saturating_sub(1);
@@ -161,12 +169,13 @@ impl Changes {
             self.begin(slot, spans.reigns.flag != 0, spacing);
         }
         let segments = spans.reigns.cells;
-        // only a text with padding can have two segments of one address
-        let is_bent = Difference::of(&segments, &self.segments).at.is_some();
-        self.segments = segments;
-        if let Some(texts) = self.flags.get_mut(usize::from(self.flag)) {
-            texts.can_mix = texts.can_mix || is_bent;
+        if is_padded
+            && Difference::of(&segments, &self.segments).at.is_some()
+            && let Some(texts) = self.flags.get_mut(usize::from(self.flag))
+        {
+            texts.can_mix = true;
         }
+        self.segments = segments;
     }
 
     /// Ends the current text or name, whose last segment or tags came in this slot.
@@ -223,9 +232,12 @@ impl AllChanges {
     #[inline(never)]
     fn take(&mut self, slot: u64, audit: &Audit, found: FaultSet) {
         if audit.text.puts != self.texts.puts {
-            self.texts.take(slot, audit.text, audit.distance, found);
+            let is_padded = audit.is_padded != 0;
+            self.texts
+                .take(slot, &audit.text, audit.distance, is_padded, found);
         } else {
-            self.names.take(slot, audit.name, audit.distance, found);
+            self.names
+                .take(slot, &audit.name, audit.distance, false, found);
         }
     }
 
