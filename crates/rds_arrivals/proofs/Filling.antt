@@ -1,8 +1,6 @@
 -- Lemmas: a filled log is heard by an own clock that counts no slot too few.
-use Rattle.std.proofs.lemmas.Bool.Decides.{nat_tests}
 use Rattle.std.proofs.Common.{◌≡◌, ◌⊎◌, ◌+◌, ◌<◌, ◌≤◌, ℕ, zero, suc, List, [], ◌∷◌, length, Option, Some, None, max}
-use Rattle.std.proofs.Common.{refl, ap, arith}
-use Rattle.std.specs.List.{All}
+use Rattle.std.proofs.Common.{refl, ap, arith, All}
 use Rattle.std.proofs.lemmas.List.Elements.{All-head, All-tail}
 use Rattle.rds_safety.specs.Late.{CameFrom, HasEntry, IsHeardInOrder}
 use Rattle.rds_safety.specs.OwnClock.{IsHeardByOwnClock}
@@ -60,7 +58,7 @@ came_cases : {X : Type 0} (grain m first : ℕ) (d : Delivery X) (before : List 
     → CameFrom (delivered_input grain m first 0 (d ∷ before)) t s
     → ((t + 1 ≡ first + length (from_of grain m (d ∷ before))) × (s ≡ d.slot))
     ⊎ CameFrom (delivered_input grain m first 0 before) t s
-came_cases grain m first d before t s came = grind (arith, nat_tests, some_is, lost_came)
+came_cases grain m first d before t s came = grind (arith, some_is, lost_came)
 
 -- the number of own slots
 long : {X : Type 0} (grain m : ℕ) (d : Delivery X) (before : List (Delivery X))
@@ -70,7 +68,7 @@ long grain m d before = (let n = lost_long (lost_at grain m before d) (from_of g
 -- what holds for each two deliveries holds for each two of those before the newest
 shorter : {X : Type 0} (Holds : Delivery X → Delivery X → Type 0) (d : Delivery X) (before : List (Delivery X))
     → EachTwo Holds (d ∷ before) → EachTwo Holds before
-shorter Holds d before all = grind (arith, nat_tests)
+shorter Holds d before all = grind (arith)
 
 -- no entry was sent later than the newest
 pub no_later : {X : Type 0} (grain m first : ℕ) (d : Delivery X) (before : List (Delivery X))
@@ -85,7 +83,7 @@ no_later {X} grain m first d (e ∷ before) later t s p =
 keeps_up : {X : Type 0} (grain spread m : ℕ) (d e : Delivery X) (before : List (Delivery X))
     → AreBelowASlot grain spread → KeepsPace spread d e
     → (m ≤ lost_at grain m (e ∷ before) d) ⊎ (d.slot ≤ e.slot + lost_at grain m (e ∷ before) d + 1)
-keeps_up grain spread m d e before wide pace = grind (arith, nat_tests)
+keeps_up grain spread m d e before wide pace = grind (arith)
 
 -- an entry that came less than m own slots before the next one was sent no more slots before
 pub recent : {X : Type 0} (grain spread m first : ℕ) (d : Delivery X) (before : List (Delivery X))
@@ -126,7 +124,7 @@ between : {X : Type 0} (grain spread m first : ℕ) (given : List (Delivery X)) 
     → CameFrom (delivered_input grain m first 0 given) u s → u < t + m → s < r + m
 between grain spread m first [] wide some later pace t u r s p q near = absurd p
 between {X} grain spread m first (d ∷ before) wide some later pace t u r s p q near =
-    grind (arith, nat_tests, between grain spread m first before wide some, shorter, came_cases, no_later, recent)
+    grind (arith, between grain spread m first before wide some, shorter, came_cases, no_later, recent)
 
 -- a receiver of a filled log hears by a clock of its own that counts no slot too few
 pub own_clock : {X : Type 0} (grain spread m first lost : ℕ) (log : List (Option X)) (d : Delivery X)
@@ -149,6 +147,6 @@ keep_pace {X} least ahead spread (d ∷ e ∷ before) ways =
     let late = All-head (IsOnItsWay {X = X} least ahead spread) d (e ∷ before) ways in
     let rest = All-tail (IsOnItsWay {X = X} least ahead spread) d (e ∷ before) ways in
     let early = All-head (IsOnItsWay {X = X} least ahead spread) e before rest in
-    grind (arith, nat_tests, keep_pace least ahead spread (e ∷ before))
+    grind (arith, keep_pace least ahead spread (e ∷ before))
 
 -- ---- the times of even delays are not coarse

@@ -1,7 +1,6 @@
 -- Lemmas: a minute depends on its sixteen bytes alone.
 use Rattle.std.proofs.Common.{◌≡◌, ◌+◌, ◌*◌, ◌%◌, ◌^◌, ◌<◌, ◌≤◌, ◌∙◌, ℕ, zero, suc, true, List, [], ◌∷◌}
 use Rattle.std.proofs.Common.{refl, sym, ap, arith, cond, length, map, nat_eq, nat_lt, slice_index, take, drop, w8}
-use Rattle.std.proofs.lemmas.Bool.Decides.{nat_tests}
 use Rattle.std.proofs.lemmas.Simd.{mask_l-mod, tops_compared}
 use Rattle.std.proofs.lemmas.List.{get_or-drop, get_or-take, length-drop, length-take-le}
 use lib.Lanes.{mask_l, top, zip2}
@@ -18,7 +17,7 @@ byte_same : (t : List ℕ) (p i k : ℕ) → i ≡ p + k → k < 16 → slice_in
 byte_same t p i k at h = ap (slice_index t) at ∙ sym (get_or-take 16 (drop p t) k 0 h ∙ get_or-drop p t k 0)
 
 here : (t : List ℕ) (i : ℕ) → i < length t → nat_lt i (length t) ≡ true
-here t i h = grind (arith, nat_tests)
+here t i h = grind (arith)
 
 digit_same : (t : List ℕ) (p i k : ℕ) → i ≡ p + k → k < 16 → p + 16 ≤ length t → digit_at t i ≡ digit_at (sixteen t p) k
 digit_same t p i k at h long =
@@ -69,14 +68,11 @@ abbrev pub ones : ℕ → ℕ
 ones zero = 0
 ones (suc n) = 1 + 2 * ones n
 
-equal : (a b : ℕ) → nat_eq a b ≡ true → a ≡ b
-equal a b e = grind (arith, nat_tests)
-
 -- if all lanes are equal, the other list begins with these bytes
 begins_with : (n : ℕ) (xs ys : List ℕ) → length xs ≡ n → mask_l (zip2 nat_eq xs ys) ≡ ones n
     → (take n ys ≡ xs) × (n ≤ length ys)
 begins_with zero [] ys long e = (refl, omega arith)
-begins_with (suc n) (x ∷ xs) (y ∷ ys) long e = grind (arith, nat_tests, begins_with n xs ys (omega arith))
+begins_with (suc n) (x ∷ xs) (y ∷ ys) long e = grind (arith, begins_with n xs ys (omega arith))
 begins_with n xs ys long e = absurd (omega arith)
 
 no_longer : (xs ys : List ℕ) → length (zip2 nat_eq xs ys) ≤ length xs

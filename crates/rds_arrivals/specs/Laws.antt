@@ -1,6 +1,5 @@
 -- The laws of filled logs. Lists have the newest first.
-use Rattle.std.specs.Prelude.{◌≡◌, ◌+◌, ◌<◌, ℕ, List, ◌∷◌, Option}
-use Rattle.std.specs.List.{All}
+use Rattle.std.specs.Prelude.{◌≡◌, ◌+◌, ◌<◌, ℕ, List, ◌∷◌, Option, All}
 use Rattle.rds_safety.specs.OwnClock.{IsHeardByOwnClock}
 use Rattle.rds_arrivals.specs.Arrivals.{AreLost, lost_within}
 use Rattle.rds_arrivals.specs.Delivered.{AreBelowASlot, AreOf, Delivery, EachTwo, IsLater, IsOnItsWay}

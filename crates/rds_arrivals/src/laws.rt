@@ -4,7 +4,7 @@ ghost use Rattle.rds_arrivals.specs.Laws.{EvenDelaysKeepPace};
 ghost use Rattle.rds_arrivals.specs.Laws.{FilledLogsAreOwnClocks, LostSlotsAreCounted, OneCount};
 
 /// States which number of lost slots is counted, and that there is one.
-#[tactic(auto, using(crate::proofs::Counting::are_lost, crate::proofs::Counting::one_count))]
+#[tactic(auto, using(crate::proofs::Fractions::are_lost, crate::proofs::Fractions::one_count))]
 pub fn lost_slots_are_counted()
     ensures counted { LostSlotsAreCounted }
     ensures one { OneCount }

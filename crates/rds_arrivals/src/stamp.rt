@@ -102,7 +102,7 @@ fn two_up_to(text: &[u8], place: usize, most: u64) -> Option<u64>
 }
 
 /// Returns the time of a date and a time of day.
-#[tactic(auto, using(crate::proofs::Short::no_date))]
+#[tactic(auto, using(crate::proofs::Fractions::no_date))]
 fn dated(last: &mut LastMinute, text: &[u8]) -> Option<Stamp>
     requires { length text.now ≤ 64 }
     ensures { result ≡ specs.dated text.now }
@@ -235,7 +235,7 @@ fn zoned(text: &[u8], local: u64, place: usize) -> Option<Stamp>
 }
 
 /// Returns the time of seconds with a fraction, such as `12.5`. There are at most twelve digits before the point.
-#[tactic(auto, using(std::proofs::lemmas::Bool::Decides::nat_tests, crate::proofs::Digits::all_lead))]
+#[tactic(auto, using(std::proofs::lemmas::Bool::Decides::nat_tests, crate::proofs::Fractions::all_lead))]
 fn in_seconds(text: &[u8]) -> Option<Stamp>
     requires { length text.now ≤ 64 }
     ensures value { result ≡ specs.in_seconds text.now }

@@ -1,16 +1,13 @@
 -- Lemmas: which cells the bytes and their mask hold.
 use Rattle.std.proofs.Common.{◌≡◌, ◌≢◌, ℕ, zero, suc, ◌+◌, ◌-◌, ◌*◌, ◌/◌, ◌%◌, ◌<◌, ◌≤◌, List, Bool, true, false, cond}
 use Rattle.std.proofs.Common.{nat_eq, length, slice_index, get_or, take, drop, Option, Some, None, refl, sym, ap, ◌∙◌}
-use Rattle.std.proofs.Common.{◌⊎◌, inl, inr, arith, lit<}
-use Rattle.std.specs.Prelude.{◌==◌, is_some}
+use Rattle.std.proofs.Common.{◌⊎◌, inl, inr, arith, lit<, ◌==◌, is_some, nat_cmp}
+use Rattle.std.specs.FinMap.{get, empty, contains_key, get-insert, get-empty, same_map, nat_cmp-IsAntisymmetric, insert}
 use Rattle.std.specs.Int.{bit_at}
-use Rattle.std.specs.FinMap.{get, insert, empty, contains_key, get-insert, get-empty, same_map, nat_cmp-IsAntisymmetric}
-use Rattle.std.specs.Ordering.{nat_cmp}
 use Rattle.std.specs.Cmp.{unsigned_tied}
 use Rattle.std.proofs.lemmas.Cmp.{nat_cmp_total}
 use Rattle.std.proofs.lemmas.Nat.Bits.{bit_at-lt, bit_at-zero, same_from_bits_below}
 use Rattle.std.proofs.lemmas.Bool.{cases_lt, cases_order}
-use Rattle.std.proofs.lemmas.Bool.Decides.{nat_tests}
 use Rattle.std.proofs.lemmas.List.{drop-take, get_or-take, length-take-le}
 use Rattle.std.proofs.lemmas.Simd.{get_or-chunk}
 use Rattle.std.proofs.lemmas.Slice.{take-put_mid_below, drop-put_mid, between-put_mid}
@@ -28,14 +25,14 @@ cell_in mask bytes a = cond (bit_at mask a == 1) (Some (segment_of bytes a)) Non
 
 one_more : (a mask : ℕ) (bytes : List ℕ) (q : ℕ) → q ≢ a
     → get (cells_below (suc a) mask bytes) q ≡ get (cells_below a mask bytes) q
-one_more a mask bytes q apart = grind (arith, nat_tests, get-put)
+one_more a mask bytes q apart = grind (arith, get-put)
 
 above : (n mask : ℕ) (bytes : List ℕ) (q : ℕ) → n ≤ q → get (cells_below n mask bytes) q ≡ None
 above zero mask bytes q h = get-empty nat_cmp q
-above (suc a) mask bytes q h = grind (arith, nat_tests, above a mask bytes q (omega arith), one_more)
+above (suc a) mask bytes q h = grind (arith, above a mask bytes q (omega arith), one_more)
 
 newest : (a mask : ℕ) (bytes : List ℕ) → get (cells_below (suc a) mask bytes) a ≡ cell_in mask bytes a
-newest a mask bytes = grind (arith, nat_tests, get-put, above)
+newest a mask bytes = grind (arith, get-put, above)
 
 below : (n mask : ℕ) (bytes : List ℕ) (q : ℕ) → q < n → get (cells_below n mask bytes) q ≡ cell_in mask bytes q
 below zero mask bytes q h = absurd (omega arith)
@@ -57,11 +54,11 @@ past_all mask bytes a h = above 16 mask bytes a h
 -- a set bit gives the segment at its address
 pub get-set : (mask : ℕ) (bytes : List ℕ) (a : ℕ) → a < 16 → bit_at mask a ≡ 1
     → get (held_cells mask bytes) a ≡ Some (segment_of bytes a)
-get-set mask bytes a h on = grind (arith, nat_tests, get-held)
+get-set mask bytes a h on = grind (arith, get-held)
 
 -- a bit that is not set gives no segment
 pub get-unset : (mask : ℕ) (bytes : List ℕ) (a : ℕ) → a < 16 → bit_at mask a ≡ 0 → get (held_cells mask bytes) a ≡ None
-get-unset mask bytes a h off = grind (arith, nat_tests, get-held)
+get-unset mask bytes a h off = grind (arith, get-held)
 
 -- a place of a segment that is held has its byte
 pub byte_in : (mask : ℕ) (bytes : List ℕ) (i : ℕ) → i < 64 → bit_at mask (i / 4) ≡ 1
@@ -81,7 +78,7 @@ AreSetBelow mask n = (i : ℕ) → i < n → bit_at mask (i / 4) ≡ 1
 -- cells whose bits are set below n spell the first n bytes
 pub spelled : (mask : ℕ) (bytes : List ℕ) (n : ℕ) → n ≤ 64 → length bytes ≡ 64 → AreSetBelow mask n
     → IsSpelled (held_cells mask bytes) (take n bytes)
-spelled mask bytes n h long on = grind (arith, nat_tests, length-take-le, get_or-take, byte_in)
+spelled mask bytes n h long on = grind (arith, length-take-le, get_or-take, byte_in)
 
 -- without a bit there is no cell
 none_set : (n : ℕ) (bytes : List ℕ) → cells_below n 0 bytes ≡ empty
@@ -122,7 +119,7 @@ put_held mask after a bytes written segment h set kept here others =
     by : (q : ℕ) (b : Bool) → nat_eq q a ≡ b
         → get (held_cells after written) q ≡ cond (nat_eq q a) (Some segment) (get (held_cells mask bytes) q)
     by q true e = search (arith, get-set)
-    by q false e = rw e (other q (grind (arith, nat_tests)) (cases_lt q 16))
+    by q false e = rw e (other q (grind (arith)) (cases_lt q 16))
 
 -- writing four bytes keeps the other segments and puts this one
 pub others_stay : (a k : ℕ) (bytes segment : List ℕ) → k ≡ 4 → length segment ≡ 4 → 4 * a + 4 ≤ length bytes → (q : ℕ)
@@ -149,11 +146,11 @@ segment_stands a k bytes segment e long room =
 -- a cell is held exactly if its bit is set
 pub contains-held : (mask : ℕ) (bytes : List ℕ) (a : ℕ) → a < 16
     → contains_key (held_cells mask bytes) a ≡ (bit_at mask a == 1)
-contains-held mask bytes a h = grind (arith, nat_tests, get-held)
+contains-held mask bytes a h = grind (arith, get-held)
 
 pub contained_set : (mask : ℕ) (bytes : List ℕ) (a : ℕ) → a < 16 → contains_key (held_cells mask bytes) a ≡ true
     → bit_at mask a ≡ 1
-contained_set mask bytes a h there = grind (arith, nat_tests, contains-held)
+contained_set mask bytes a h there = grind (arith, contains-held)
 
 -- a byte that is held has the bit of its segment
 pub byte_set : (mask : ℕ) (bytes : List ℕ) (i b : ℕ) → i < 64 → HasByte (held_cells mask bytes) i b
@@ -164,4 +161,4 @@ byte_set mask bytes i b h byte = contained_set mask bytes (i / 4) (omega arith) 
 pub held_again : (mask a : ℕ) (bytes segment : List ℕ) → a < 16 → contains_key (held_cells mask bytes) a ≡ true
     → segment_of bytes a ≡ segment
     → held_cells mask bytes ≡ insert (held_cells mask bytes) a segment
-held_again mask a bytes segment h there here = grind (arith, nat_tests, put_held, contained_set)
+held_again mask a bytes segment h there here = grind (arith, put_held, contained_set)

@@ -5,7 +5,6 @@ use Rattle.std.specs.Int.{bit_at, from_bool}
 use Rattle.std.proofs.Math.ListN.{get_or-map}
 use Rattle.std.proofs.Math.Nat.{pow-suc}
 use Rattle.std.proofs.lemmas.Bool.{cases_lt}
-use Rattle.std.proofs.lemmas.Bool.Decides.{nat_tests}
 use Rattle.std.proofs.lemmas.Nat.{or_mod, or_shifted, pow_pos}
 use Rattle.std.proofs.lemmas.Nat.Bits.{bit_at-zero, bit_at_above, bit_at_and, bit_at_cat_high, bit_at_cat_low}
 use Rattle.std.proofs.lemmas.Nat.Bits.{bit_at_or, same_from_bits}
@@ -13,7 +12,7 @@ use Rattle.std.proofs.lemmas.Simd.{bit_mask_l}
 use lib.Lanes.{mask_l}
 
 one_or_zero : (b : Bool) → cond b 1 0 ≡ from_bool b
-one_or_zero b = grind (arith, nat_tests)
+one_or_zero b = grind (arith)
 
 -- a bit of the mask tells whether its byte is a carriage return
 pub bit_at-mask : (bytes : List ℕ) (i : ℕ)
@@ -88,13 +87,13 @@ abbrev IsWide : ℕ → Type 0
 IsWide mask = (i : ℕ) → bit_at (wide mask) i ≡ bit_at mask (i / 4)
 
 wide_both : (a b : ℕ) → IsWide a → IsWide b → IsWide (bit_or a b)
-wide_both a b p q i = grind (arith, nat_tests, wide-or, bit_at_or)
+wide_both a b p q i = grind (arith, wide-or, bit_at_or)
 
 smaller : (a b : ℕ) → nat_lt a b ≡ true → a < b
-smaller a b e = grind (arith, nat_tests)
+smaller a b e = grind (arith)
 
 both : (a b : Bool) → (a && b) ≡ true → (a ≡ true) × (b ≡ true)
-both a b e = grind (arith, nat_tests)
+both a b e = grind (arith)
 
 abbrev agree : ℕ → ℕ → ℕ → Bool
 agree mask spread zero = true
@@ -102,7 +101,7 @@ agree mask spread (suc i) = nat_eq (bit_at spread i) (bit_at mask (i / 4)) && ag
 
 agree_at : (mask spread n : ℕ) → agree mask spread n ≡ true → (i : ℕ) → i < n → bit_at spread i ≡ bit_at mask (i / 4)
 agree_at mask spread zero t i h = absurd (omega arith)
-agree_at mask spread (suc n) t i h = grind (arith, nat_tests, agree_at mask spread n)
+agree_at mask spread (suc n) t i h = grind (arith, agree_at mask spread n)
 
 abbrev is_wide : ℕ → ℕ → Bool
 is_wide mask spread = nat_lt mask 65536 && (nat_lt spread 18446744073709551616 && agree mask spread 64)

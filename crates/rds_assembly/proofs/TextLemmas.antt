@@ -5,7 +5,6 @@ use Rattle.std.specs.Int.{bit_at, trailing_ones, trailing_zeros}
 use Rattle.std.specs.Int.Count.{trailing_of_zero}
 use Rattle.std.specs.FinMap.{get}
 use Rattle.std.proofs.lemmas.Bool.{cases_lt, cases_order}
-use Rattle.std.proofs.lemmas.Bool.Decides.{nat_tests}
 use Rattle.std.proofs.lemmas.List.{get_or-take, length-take-le}
 use Rattle.std.proofs.lemmas.Nat.{and_le_r}
 use Rattle.std.proofs.lemmas.Nat.Bits.{bit_at-lt, bit_at-zero, bit_at_and, bit_at_ones, bit_at-trailing_ones}
@@ -22,11 +21,11 @@ abbrev Passed : Cells → ℕ → Type 0
 Passed m n = (k : ℕ) → k < n → (b : ℕ) × HasByte m k b × (b ≢ 13)
 
 not_both : (m : Cells) (i b : ℕ) → HasByte m i b → get m (i / 4) ≡ None → ⊥
-not_both m i b h n = grind (arith, nat_tests)
+not_both m i b h n = grind (arith)
 
 missing : (m : Cells) (n : ℕ) → Passed m n → n < 64 → get m (n / 4) ≡ None → (x : List ℕ) → IsWholeText m x → ⊥
 missing m n p h none x w = elim (cases_order (length x) n) [
-  | inl e ↦ grind (arith, nat_tests)
+  | inl e ↦ grind (arith)
   | inr (inl less) ↦ elim w.ends [
     | inl f ↦ omega arith
     | inr f ↦ (p (length x) less).2 (one_byte m (length x) _ _ (p (length x) less).1 f.1)
@@ -43,11 +42,11 @@ pub record AreLanes (mask : ℕ) (bytes : List ℕ) (held returns : ℕ) : Type 
 
 other_byte : (mask : ℕ) (bytes : List ℕ) (held returns i : ℕ) → AreLanes mask bytes held returns
     → bit_at (bit_and returns held) i ≡ 0 → bit_at held i ≡ 1 → slice_index bytes i ≢ 13
-other_byte mask bytes held returns i lanes off on is = grind (arith, nat_tests, bit_at_and)
+other_byte mask bytes held returns i lanes off on is = grind (arith, bit_at_and)
 
 return_byte : (mask : ℕ) (bytes : List ℕ) (held returns i : ℕ) → AreLanes mask bytes held returns
     → bit_at (bit_and returns held) i ≡ 1 → (bit_at held i ≡ 1) × (slice_index bytes i ≡ 13)
-return_byte mask bytes held returns i lanes on = grind (arith, nat_tests, bit_at_and, bit_at-lt)
+return_byte mask bytes held returns i lanes on = grind (arith, bit_at_and, bit_at-lt)
 
 -- the first set bit is at place p, or no bit is set and p is 64
 record IsFirst (found p : ℕ) : Type 0 where
@@ -119,4 +118,4 @@ found_whole mask bytes held returns lanes h =
 pub found_none : (mask : ℕ) (bytes : List ℕ) (held returns : ℕ) → AreLanes mask bytes held returns
     → trailing_ones w64 held < trailing_zeros w64 (bit_and returns held)
     → (x : List ℕ) → IsWholeText (held_cells mask bytes) x → ⊥
-found_none mask bytes held returns lanes h = grind (arith, nat_tests, and_le_r, beyond, first, gap)
+found_none mask bytes held returns lanes h = grind (arith, and_le_r, beyond, first, gap)

@@ -2,7 +2,6 @@
 use Rattle.std.proofs.Common.{◌≡◌, ◌⊎◌, ◌≤◌, ◌∷◌, ◌∙◌, [], ℕ, true, false, List, Option, None, Some, ap, arith, inl}
 use Rattle.std.proofs.Common.{inr, length, refl, sym}
 use Rattle.std.specs.List.{AllByRecursion}
-use Rattle.std.proofs.lemmas.Bool.Decides.{nat_tests}
 use Rattle.rds_fields.specs.declared.message.Message.{Message}
 use Rattle.rds_fields.specs.Tag.{PairFields}
 use Rattle.rds_receiver.specs.declared.fragment.Fragment.{Fragment}
@@ -35,7 +34,7 @@ IsFirst f EarlyTag = f.early_tag ≡ true
 IsFirst f TagOutside = (f.not_one_text ≡ false) × (f.early_tag ≡ false) × (f.tag_outside ≡ true)
 
 first_is : (f : FaultSet) (fault : AuditFault) → first_of f ≡ Some fault → IsFirst f fault
-first_is f fault e = grind (arith, nat_tests)
+first_is f fault e = grind (arith)
 
 module _ (g : Gauge) (exact : IsExact g) (d : ℕ) where
   -- ---- what the marks of a span say of its reign
@@ -47,7 +46,7 @@ module _ (g : Gauge) (exact : IsExact g) (d : ℕ) where
       → start ≤ slot → IsFirst (broken_by g d (first_of_span slot p start false false)) fault
       → BreaksByFragment g.kind (opened_from start slot p ∷ older) fault
   opened_breaks slot start p older fault formed late is =
-      grind (arith, nat_tests, none_past g exact.some (p ∷ []))
+      grind (arith, none_past g exact.some (p ∷ []))
 
   -- a fragment joins a reign
   joined_breaks : (slot : ℕ) (p : Fragment) (r : Span) (older : List Reign) (fault : AuditFault)
@@ -55,13 +54,13 @@ module _ (g : Gauge) (exact : IsExact g) (d : ℕ) where
       → changes g r.reign.fragments p ≡ false → IsFirst (broken_by g d (span_with slot p r)) fault
       → BreaksByFragment g.kind (with_fragment slot p r.reign ∷ older) fault
   joined_breaks slot p r older fault formed was none joins is =
-      grind (arith, nat_tests, none_past g exact.some (p ∷ r.reign.fragments))
+      grind (arith, none_past g exact.some (p ∷ r.reign.fragments))
 
   -- a fragment changes a reign
   changed_breaks : (slot : ℕ) (p : Fragment) (r : Reign) (older : List Reign) (fault : AuditFault)
       → CanBeBroadcast d g.kind r → changes g r.fragments p ≡ true → Changed ≡ fault
       → BreaksByFragment g.kind (with_fragment slot p r ∷ older) fault
-  changed_breaks slot p r older fault was changed is = grind (arith, nat_tests)
+  changed_breaks slot p r older fault was changed is = grind (arith)
 
   fragment_breaks : (p : Fragment) (before : List Mark) (rs : List Span) (fault : AuditFault)
       → IsFormed g.segments p → AllByRecursion (CanBeBroadcast d g.kind) (reigns_of rs)
@@ -69,7 +68,7 @@ module _ (g : Gauge) (exact : IsExact g) (d : ℕ) where
       → first_of (broken_newest g d (Sends p ∷ before) (spans_after g d (length before) p rs)) ≡ Some fault
       → BreaksByFragment g.kind (after_fragment d (length before) p (reigns_of rs)) fault
   fragment_breaks p before [] fault formed was none is =
-      grind (arith, nat_tests, none_past g exact.some (p ∷ []))
+      grind (arith, none_past g exact.some (p ∷ []))
   fragment_breaks p before (r ∷ older) fault formed was none is =
       by_fragment g (λ (rs : List Span) (regs : List Reign).
       first_of (broken_newest g d (Sends p ∷ before) rs) ≡ Some fault → BreaksByFragment g.kind regs fault)
@@ -86,13 +85,13 @@ module _ (g : Gauge) (exact : IsExact g) (d : ℕ) where
       → broken_newest g d before rs ≡ none_broken
       → first_of (broken_newest g d (Tagged pair ∷ before) (spans_tagged (length before) pair rs)) ≡ Some fault
       → BreaksByTags d g.kind (length before) (after_tags (length before) pair (reigns_of rs)) fault
-  tags_break pair before rs fault none is = grind (arith, nat_tests)
+  tags_break pair before rs fault none is = grind (arith)
 
   -- the newest mark breaks the rule of its first fault, after marks that pass
   service_breaks : (mark : Mark) (before : List Mark) (fault : AuditFault) → IsFormedMark g.segments mark
       → Passes d g.kind before → first_of (added g d mark before) ≡ Some fault
       → BreaksRule d g.kind mark before fault
-  service_breaks Nothing before fault formed passes is = grind (arith, nat_tests)
+  service_breaks Nothing before fault formed passes is = grind (arith)
   service_breaks (Sends p) before fault formed passes is =
       let h = are_reigns g exact d before passes in
       rw (← h.same) (fragment_breaks p before (spans g d before) fault formed (rw h.same passes.reigns) h.none
@@ -106,7 +105,7 @@ module _ (g : Gauge) (exact : IsExact g) (d : ℕ) where
 
 -- a message is silent for names or for texts
 one_silent : (m : Option Message) → (name_mark m ≡ Nothing) ⊎ (text_mark m ≡ Nothing)
-one_silent m = grind (arith, nat_tests)
+one_silent m = grind (arith)
 
 slot_breaks : (form : TextForm) (d : ℕ) (newest : Option Message) (before : List (Option Message)) (fault : AuditFault)
     → IsFormedMessage newest → LogPasses form d before → first_of (slot_adds form d newest before) ≡ Some fault

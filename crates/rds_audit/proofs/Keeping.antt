@@ -1,5 +1,4 @@
 -- Lemmas: what the reigns of a log keep from slot to slot.
-use Rattle.std.proofs.lemmas.Bool.Decides.{nat_tests}
 use Rattle.std.proofs.Common.{◌≡◌, ◌<◌, ℕ, List, [], ◌∷◌, length, sym, ◌∙◌, inl, inr, arith, ◌+◌, ◌≤◌, refl}
 use Rattle.rds_fields.specs.Tag.{PairFields}
 use Rattle.rds_receiver.specs.declared.fragment.Fragment.{Fragment}
@@ -35,12 +34,12 @@ one_mark (x ∷ before) t m n (inr p) (inr q) = one_mark before t m n p q
 -- a mark of an earlier slot than the newest
 pub sent_before : (x : Mark) (before : List Mark) (t : ℕ) (m : Mark) → t < length before → IsMarkIn (x ∷ before) t m
     → IsMarkIn before t m
-sent_before x before t m h h5 = grind (arith, nat_tests)
+sent_before x before t m h h5 = grind (arith)
 
 -- an older slot that has a mark had it before the newest slot
 pub marked_before : (x : Mark) (before : List Mark) (t : ℕ) → t < length before → IsMarked (x ∷ before) t
     → IsMarked before t
-marked_before x before t h m = grind (arith, nat_tests, sent_before)
+marked_before x before t h m = grind (arith, sent_before)
 
 -- a slot that has a mark has it after one slot more
 pub marked_later : (x : Mark) (before : List Mark) (t : ℕ) → IsMarked before t → IsMarked (x ∷ before) t
@@ -49,7 +48,7 @@ marked_later x before t m = record { mark = m.mark; some = m.some; is_sent = inr
 -- slots that are bridged stay so after one slot more
 pub bridged_later : (d : ℕ) (x : Mark) (before : List Mark) (u t : ℕ) → IsBridged d before u t
     → IsBridged d (x ∷ before) u t
-bridged_later d x before u t b = grind (arith, nat_tests, marked_later)
+bridged_later d x before u t b = grind (arith, marked_later)
 
 -- the slot of a fragment has a mark
 pub fragment_is_marked : (sent : List Mark) (t : ℕ) (p : Fragment) → IsMarkIn sent t (Sends p) → IsMarked sent t
@@ -70,7 +69,7 @@ after_later x sent t w = record { slot = w.slot; fragment = w.fragment; is_sent 
 -- a plan that is lawful and dense for a log is so for its earlier slots
 pub lawful_before : (d : ℕ) (kind : Kind) (plan : List Broadcast) (x : Mark) (before : List Mark)
     → IsLawful d kind plan (x ∷ before) → IsLawful d kind plan before
-lawful_before d kind plan x before h = grind (arith, nat_tests)
+lawful_before d kind plan x before h = grind (arith)
 
 -- a plan that is dense for some marks is dense for those before the newest
 pub dense_before : (d : ℕ) (plan : List Broadcast) (x : Mark) (before : List Mark) → IsDense d plan (x ∷ before)
@@ -111,7 +110,7 @@ AreKept d sent (r ∷ older) = IsKept d sent r × ((u : ℕ) → IsMarked sent u
 
 behind_later : (x : Mark) (sent : List Mark) (rs : List Reign) (u : ℕ) → u < length sent → IsBehind sent rs u
     → IsBehind (x ∷ sent) rs u
-behind_later x sent rs u h b = grind (arith, nat_tests)
+behind_later x sent rs u h b = grind (arith)
 
 kept_later : (d : ℕ) (x : Mark) (sent : List Mark) (r : Reign) → IsKept d sent r → IsKept d (x ∷ sent) r
 kept_later d x sent r k =
@@ -130,16 +129,16 @@ pub are_kept_later : (d : ℕ) (x : Mark) (sent : List Mark) (rs : List Reign) �
     → AreKept d (x ∷ sent) rs
 are_kept_later d x sent [] k = tt
 are_kept_later d x sent (r ∷ older) k =
-    grind (arith, nat_tests, are_kept_later d x sent older k.2, early, kept_later, behind_later, marked_before)
+    grind (arith, are_kept_later d x sent older k.2, early, kept_later, behind_later, marked_before)
 
 -- a slot with nothing of the service
 nothing_behind : (sent : List Mark) (rs : List Reign) → AllBehind sent rs → AllBehind (Nothing ∷ sent) rs
-nothing_behind sent rs h u m = grind (arith, nat_tests, behind_later, early)
+nothing_behind sent rs h u m = grind (arith, behind_later, early)
 
 -- tags
 tags_behind : (sent : List Mark) (pair : PairFields) (rs : List Reign) → AllBehind sent rs
     → AllBehind (Tagged pair ∷ sent) (after_tags (length sent) pair rs)
-tags_behind sent pair [] h u m = grind (arith, nat_tests, fragment_is_marked)
+tags_behind sent pair [] h u m = grind (arith, fragment_is_marked)
 tags_behind sent pair (r ∷ older) h u m = omega (arith, marked_early (Tagged pair ∷ sent) u m)
 
 -- a mark that goes on with the newest reign
@@ -226,4 +225,4 @@ fragment_keeps d sent p (r ∷ older) k =
 pub keeps : (d : ℕ) (sent : List Mark) → Keeps d sent (reigns d sent)
 keeps d [] = (tt, λ u m. absurd m.is_sent)
 keeps d (x ∷ sent) =
-    grind (arith, nat_tests, keeps d sent, are_kept_later, nothing_behind, fragment_keeps, tags_kept, tags_behind)
+    grind (arith, keeps d sent, are_kept_later, nothing_behind, fragment_keeps, tags_kept, tags_behind)

@@ -2,8 +2,7 @@
 use Rattle.std.proofs.lemmas.Bool.Decides.{nat_tests}
 use Rattle.std.proofs.Common.{◌≡◌, ◌⊎◌, ◌+◌, ◌-◌, ◌*◌, ◌/◌, ◌%◌, ◌^◌, ◌<◌, ◌≤◌, ◌&&◌, ◌||◌, min, max, ℕ, zero, suc}
 use Rattle.std.proofs.Common.{Bool, true, false, nat_eq, nat_lt, nat_le, cond, List, [], ◌∷◌, length, slice_index, refl}
-use Rattle.std.proofs.Common.{sym, ap, ◌∙◌, inl, inr, arith, Option, Some, None, not, get_or}
-use Rattle.std.specs.Prelude.{bit_and, bit_or}
+use Rattle.std.proofs.Common.{sym, ap, ◌∙◌, inl, inr, arith, Option, Some, None, not, get_or, bit_and, bit_or}
 use Rattle.std.specs.Int.{bit_at}
 use Rattle.std.proofs.lemmas.Bool.{cases_lt, eq-eqb, eqb-true, false_from_ne_true}
 use Rattle.rds_assembly.specs.Value.{is_text_byte}
@@ -25,7 +24,7 @@ pow_next n = omega (arith, pow-suc 2 n)
 pub those_below : (ok : ℕ → Bool) (k : ℕ) → those ok k < 2 ^ k
 unfolding those
 those_below ok zero = omega arith
-those_below ok (suc n) = grind (arith, nat_tests, those_below ok n, pow_next)
+those_below ok (suc n) = grind (arith, those_below ok n, pow_next)
 
 -- a bit of the set is the answer of the test
 pub bit_those : (ok : ℕ → Bool) (k n : ℕ) → n < k → bit_at (those ok k) n ≡ cond (ok n) 1 0
@@ -42,12 +41,6 @@ bit_those ok (suc m) n h = grind (
 
 pub bit_past : (ok : ℕ → Bool) (k n : ℕ) → k ≤ n → bit_at (those ok k) n ≡ 0
 bit_past ok k n h = bit_at_above (those ok k) k n (those_below ok k) h
-
-and_bit : (f g : Bool) → min (cond f 1 0) (cond g 1 0) ≡ cond (f && g) 1 0
-and_bit f g = grind arith
-
-or_bit : (f g : Bool) → max (cond f 1 0) (cond g 1 0) ≡ cond (f || g) 1 0
-or_bit f g = grind arith
 
 -- the lengths that pass both tests
 pub and_those : (f g : ℕ → Bool) (k : ℕ) → bit_and (those f k) (those g k) ≡ those (λ n. f n && g n) k
@@ -131,26 +124,26 @@ some_length (suc w) l h some = elim (cases_lt 0 (l % 2)) [
 -- the lengths of a set that is past an end are below that
 pub below_end : (l end n : ℕ) → is_past l end ≡ true → bit_at l n ≡ 1 → n < end
 below_end l end n past b =
-    grind (arith, nat_tests, bit_at_above l end n, le-div 1 l (2 ^ end) (pow_pos end), pow_pos end)
+    grind (arith, bit_at_above l end n, le-div 1 l (2 ^ end) (pow_pos end), pow_pos end)
 
 -- a set that is not past an end has a length from there on
 pub from_end : (w l end : ℕ) → l < 2 ^ w → is_past l end ≡ false → (n : ℕ) × (end ≤ n) × (bit_at l n ≡ 1)
 from_end w l end h past =
-    let some = some_length w (l / 2 ^ end) (omega (arith, shr_le l end)) (λ e. grind (arith, nat_tests)) in
+    let some = some_length w (l / 2 ^ end) (omega (arith, shr_le l end)) (λ e. grind (arith)) in
     (end + some.0, omega arith, ap (λ m. m % 2) (sym (shr-shr l end some.0)) ∙ some.1)
 
 -- a number whose quotient is not zero reaches the divisor
 div_reaches : (n k : ℕ) → 0 < k → 0 < n / k → k ≤ n
-div_reaches n k pos some = grind (arith, nat_tests, div_below n k 1 pos)
+div_reaches n k pos some = grind (arith, div_below n k 1 pos)
 
 -- a smaller set is past the same end, and a set is past each further end
 pub past_less : (l less end : ℕ) → less ≤ l → is_past l end ≡ true → is_past less end ≡ true
 past_less l less end h past =
-    grind (arith, nat_tests, le-div 1 l (2 ^ end) (pow_pos end), div_reaches less (2 ^ end) (pow_pos end))
+    grind (arith, le-div 1 l (2 ^ end) (pow_pos end), div_reaches less (2 ^ end) (pow_pos end))
 
 pub past_further : (l end more : ℕ) → end ≤ more → is_past l end ≡ true → is_past l more ≡ true
 past_further l end more h past =
-    grind (arith, nat_tests, shr-shr l end (more - end), shr_le (l / 2 ^ end) (more - end))
+    grind (arith, shr-shr l end (more - end), shr_le (l / 2 ^ end) (more - end))
 
 -- ---- the code's numbers
 
@@ -164,7 +157,7 @@ pub from_bits : (k : ℕ) → k ≤ 65 → 2 ^ 65 - 1 * 2 ^ k % 2 ^ 128 ≡ thos
 from_bits k h = rw (shifted k h) (sym (from_those k 65 h))
 
 pub from_fits : (k : ℕ) → k ≤ 65 → 1 * 2 ^ k % 2 ^ 128 ≤ 2 ^ 65
-from_fits k h = grind (arith, nat_tests, shifted k h, pow_below k 65)
+from_fits k h = grind (arith, shifted k h, pow_below k 65)
 
 -- an end behind all bits is behind each length
 pub past_far : (l end : ℕ) → l < 2 ^ 128 → 128 ≤ end → is_past l end ≡ true
@@ -197,7 +190,7 @@ at_four g i (a ∷ b ∷ c ∷ d ∷ []) long =
       and_those (λ n. g.may n i a && g.may n (i + 1) b) (λ n. g.may n (i + 2) c) 65,
       and_those (λ n. (g.may n i a && g.may n (i + 1) b) && g.may n (i + 2) c) (λ n. g.may n (i + 3) d) 65,
     )
-    (same_those _ _ 65 (λ n h. grind (arith, nat_tests, places)))
+    (same_those _ _ 65 (λ n h. grind (arith, places)))
   where
     places : (i + 1 + 1 ≡ i + 2) × (i + 1 + 1 + 1 ≡ i + 3)
     places = (omega arith, omega arith)
@@ -238,12 +231,12 @@ padded_those i b = rw (
   or_those (λ n. (is_text_byte b && nat_le (i + 1) n) || (nat_eq b 13 && (nat_le i n && nat_lt n (i + 1))))
       (λ n. nat_lt n i) 65,
 )
-    (same_those _ _ 65 (λ n h. grind (arith, nat_tests)))
+    (same_those _ _ 65 (λ n h. grind (arith)))
 
 pub name_those : (place byte : ℕ)
     → cond (nat_le 32 byte) (those (λ n. nat_le (place + 1) n) 65) 0 ≡ those (λ n. in_name n place byte) 65
 name_those i b = picked (nat_le 32 b) (λ n. nat_le (i + 1) n) 65
-    ∙ same_those _ _ 65 (λ n h. grind (arith, nat_tests))
+    ∙ same_those _ _ 65 (λ n h. grind (arith))
 
 -- ---- what a fragment leaves of a set of lengths
 
@@ -263,7 +256,7 @@ unfolding measure
 measure_other g cells l address bytes e = rw e refl
 
 left_less : (l left : ℕ) → left ≤ l → (left_or l left).lengths ≤ l
-left_less l left h = grind (arith, nat_tests)
+left_less l left h = grind (arith)
 
 measure_less : (g : Gauge) (cells : List (Option (List ℕ))) (l address : ℕ) (bytes : List ℕ)
     → (measure g cells l address bytes).lengths ≤ l
@@ -286,7 +279,7 @@ measured_again g older p e = measure_held g (sent_cells older) (lengths_of g old
     (rw e (bytes_same p.bytes p.bytes refl))
 
 some_fit : (l left : ℕ) → 0 < l → 0 < (left_or l left).lengths
-some_fit l left some = grind (arith, nat_tests)
+some_fit l left some = grind (arith)
 
 measure_some : (g : Gauge) (cells : List (Option (List ℕ))) (l address : ℕ) (bytes : List ℕ) → 0 < l
     → 0 < (measure g cells l address bytes).lengths
@@ -305,7 +298,7 @@ left_some g some (p ∷ older) =
 
 -- a set with a length is not past 0
 pub not_past : (l : ℕ) → 0 < l → is_past l 0 ≡ false
-not_past l some = grind (arith, nat_tests)
+not_past l some = grind (arith)
 
 pub none_past : (g : Gauge) → 0 < g.lengths → (fragments : List Fragment) → is_past (lengths_of g fragments) 0 ≡ false
 none_past g some fragments = not_past (lengths_of g fragments) (left_some g some fragments)

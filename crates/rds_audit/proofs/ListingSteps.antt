@@ -1,8 +1,6 @@
 -- Lemmas: what a slot adds to the list of a log, and how the state of the list changes with the log.
-use Rattle.std.proofs.lemmas.Bool.Decides.{nat_tests}
 use Rattle.std.proofs.Common.{◌≡◌, ◌↔◌, ◌≤◌, ℕ, Bool, true, false, List, [], ◌∷◌, Option, Some, None, refl, sym, ap}
-use Rattle.std.proofs.Common.{◌∙◌, arith}
-use Rattle.std.specs.Prelude.{MatchOption}
+use Rattle.std.proofs.Common.{◌∙◌, arith, MatchOption}
 use Rattle.rds_block.specs.declared.group.Group.{Group}
 use Rattle.rds_fields.specs.declared.message.Message.{Message}
 use Rattle.rds_receiver.specs.Receipts.{heard_in, heard_of}
@@ -38,12 +36,12 @@ with_none f = sets_are _ _ (grind arith) (grind arith) (grind arith) (grind arit
 
 -- nothing adds nothing
 pub nothing_adds : (g : Gauge) (d : ℕ) (before : List Mark) → added g d Nothing before ≡ none_broken
-nothing_adds g d before = grind (arith, nat_tests)
+nothing_adds g d before = grind (arith)
 
 pub texts_add : (form : TextForm) (d : ℕ) (newest : Option Message) (before : List (Option Message))
     → name_mark newest ≡ Nothing
     → slot_adds form d newest before ≡ added (gauge_of form) d (text_mark newest) (marks text_mark before)
-texts_add form d newest before silent = grind (arith, nat_tests, nothing_adds, with_none)
+texts_add form d newest before silent = grind (arith, nothing_adds, with_none)
 
 pub names_add : (form : TextForm) (d : ℕ) (newest : Option Message) (before : List (Option Message))
     → text_mark newest ≡ Nothing
@@ -52,7 +50,7 @@ names_add form d newest before silent = rw (silent, nothing_adds (gauge_of form)
 
 nothing_added : (form : TextForm) (d : ℕ) (newest : Option Message) (before : List (Option Message))
     → IsSilent newest → slot_adds form d newest before ≡ none_broken
-nothing_added form d newest before silent = grind (arith, nat_tests, nothing_adds)
+nothing_added form d newest before silent = grind (arith, nothing_adds)
 
 -- ---- up to the first fault of a log
 
@@ -71,11 +69,11 @@ passing_adds form d newest before passes =
     rw (texts, names) refl
 
 formed_heard : (pi : ℕ) (slot : Option Group) → IsFormedMessage (heard_in pi slot)
-formed_heard pi slot = grind (arith, nat_tests)
+formed_heard pi slot = grind (arith)
 
 formed_counted : (start : LogStart) (judged : List (Option Message)) (message : Option Message)
     → IsFormedMessage message → IsFormedMessage (counted_as start judged message)
-formed_counted start judged message h = grind (arith, nat_tests)
+formed_counted start judged message h = grind (arith)
 
 -- a log that passes has no fault
 passes_quietly : (form : TextForm) (d : ℕ) (log : List (Option Message)) → LogPasses form d log
@@ -83,7 +81,7 @@ passes_quietly : (form : TextForm) (d : ℕ) (log : List (Option Message)) → L
 passes_quietly form d [] passes = refl
 passes_quietly form d (newest ∷ before) passes =
     let passed = log_passed_before form d newest before passes in
-    grind (arith, nat_tests, passes_quietly form d before passed, log_passed_before, passing_adds)
+    grind (arith, passes_quietly form d before passed, log_passed_before, passing_adds)
 
 -- a log with a fault does not pass
 pub no_fault : (form : TextForm) (d : ℕ) (log : List (Option Message)) (fault : AuditFault)
@@ -95,7 +93,7 @@ first_none : (f : FaultSet) → first_of f ≡ None → f ≡ none_broken
 first_none f e = sets_are _ _ (grind arith) (grind arith) (grind arith) (grind arith) (grind arith)
 
 none_of_both : (f g : FaultSet) → both f g ≡ none_broken → (f ≡ none_broken) × (g ≡ none_broken)
-none_of_both f g e = grind (arith, nat_tests)
+none_of_both f g e = grind (arith)
 
 -- a slot that adds no fault after a log that passes: the log passes with it too
 log_judged : (form : TextForm) (d : ℕ) (newest : Option Message) (before : List (Option Message))
@@ -113,7 +111,7 @@ log_judged form d newest before formed passes quiet =
 -- a log without a fault passes
 pub passes_without : (form : TextForm) (d : ℕ) (log : List (Option Message)) → AllByRecursion IsFormedMessage log
     → first_fault form d log ≡ None → LogPasses form d log
-passes_without form d [] formed none = grind (arith, nat_tests)
+passes_without form d [] formed none = grind (arith)
 passes_without form d (newest ∷ before) formed none = by (passes_without form d before formed.1)
     (first_fault form d before) refl
   where
@@ -146,7 +144,7 @@ judged_next d newest judged a after same formed holds first again has = by (faul
         next : (o : Option AuditFault) → first_of (slot_adds (form_of a) d newest judged) ≡ o
             → HasJudged d after (newest ∷ judged)
         next None q = search (arith, to_judged, log_judged)
-        next (Some fault) q = grind (arith, nat_tests, to_judged, passes_quietly)
+        next (Some fault) q = grind (arith, to_judged, passes_quietly)
 
 -- ---- from slot to slot
 
@@ -158,15 +156,15 @@ is_begun (r ∷ older) = true
 begun_if : (g : Gauge) (d : ℕ) (judged : List (Option Message))
     → is_begun (spans g d (marks text_mark judged)) ≡ has_text judged
 begun_if g d [] = refl
-begun_if g d (x ∷ before) = grind (arith, nat_tests, begun_if g d before)
+begun_if g d (x ∷ before) = grind (arith, begun_if g d before)
 
 open_begun : (d slot : ℕ) (rs : List Span) (a : Ages) → HasCurrent d slot (reigns_of rs) a → a.is_open ≡ is_begun rs
-open_begun d slot rs a h = grind (arith, nat_tests)
+open_begun d slot rs a h = grind (arith)
 
 -- there is a span of texts exactly if a text segment was judged
 pub text_open : (d : ℕ) (judged : List (Option Message)) (l : Audit) → HoldsLog d judged l
     → (spans_stored l.text).reigns.ages.is_open ≡ has_text judged
-text_open d judged l h = grind (arith, nat_tests, open_begun, begun_if)
+text_open d judged l h = grind (arith, open_begun, begun_if)
 
 -- a mark that is nothing changes no service
 stays : (g : Gauge) (d : ℕ) (mark : Mark) (sent : List Mark) (s : SpansState) → mark ≡ Nothing → HoldsSpans g d sent s
@@ -236,7 +234,7 @@ goes_on : (pi d : ℕ) (a after : Audit) (log : List (Option Group)) → AuditAt
     → HasJudged d after (counted_as (start_of a) (judged_as (start_of a) d (heard_of pi log)) (heard_in pi slot)
     ∷ judged_as (start_of a) d (heard_of pi log))
     → AuditAt pi d after (slot ∷ log)
-goes_on pi d a after log s slot keeps has = grind (arith, nat_tests)
+goes_on pi d a after log s slot keeps has = grind (arith)
 
 -- at each log that the audit follows with this programme and spacing, it follows the log with the slot, and what it
 -- found is what the slot adds
@@ -268,10 +266,10 @@ takes_all a heard after slot found lists hears ends goes first again = record {
     keeps = search arith
 
     takes : Takes a after slot found a.pi a.distance
-    takes judged h = grind (arith, nat_tests)
+    takes judged h = grind (arith)
 
     at : (pi d : ℕ) (log : List (Option Group)) → AuditAt pi d a log → Takes a after slot found pi d
-    at pi d log s = grind (arith, nat_tests)
+    at pi d log s = grind (arith)
 
     stands : (pi d : ℕ) (log : List (Option Group)) → AuditAt pi d a log → AuditAt pi d after (slot ∷ log)
     stands pi d log s =
@@ -315,4 +313,4 @@ audit_starts pi d a programme distance spacing clean texts_hold names_hold = rec
 -- the log passes exactly if there is no fault
 pub passes_exactly : (d : ℕ) (a : Audit) (judged : List (Option Message)) → HasJudged d a judged
     → (fault_of a ≡ None) ↔ LogPasses (form_of a) d judged
-passes_exactly d a judged has = grind (arith, nat_tests, log_passes, no_fault, fault_is)
+passes_exactly d a judged has = grind (arith, log_passes, no_fault, fault_is)

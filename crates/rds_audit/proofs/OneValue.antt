@@ -3,8 +3,7 @@
 use Rattle.std.proofs.lemmas.Bool.Decides.{nat_tests}
 use Rattle.std.proofs.Common.{◌≡◌, ◌⊎◌, ◌+◌, ◌*◌, ◌/◌, ◌%◌, ◌^◌, ◌<◌, ◌≤◌, ◌++◌, ℕ, zero, suc, Bool, true, ◌-◌, nat_eq}
 use Rattle.std.proofs.Common.{false, List, [], ◌∷◌, length, slice_index, get_or, Option, Some, None, refl, sym, ap, ◌∙◌}
-use Rattle.std.proofs.Common.{subst, inl, inr, arith}
-use Rattle.std.specs.Prelude.{bit_and, replicate}
+use Rattle.std.proofs.Common.{subst, inl, inr, arith, bit_and, replicate}
 use Rattle.std.specs.Int.{bit_at}
 use Rattle.std.specs.List.{AllByRecursion}
 use Rattle.std.proofs.lemmas.Bool.{and_from, and_parts, cases_lt, false_from_ne_true, lt-ltb, ltb-true}
@@ -32,20 +31,20 @@ use Rattle.rds_audit.proofs.SpanOrder.{IsIn, all_in, cell_from, cells_sent, byte
 -- ---- tags
 
 ends_below : (n : ℕ) (tag : TagFields) → ends_in n tag ≡ true → tag_end tag ≤ n
-ends_below n tag e = grind (arith, nat_tests)
+ends_below n tag e = grind (arith)
 
 below_ends : (n : ℕ) (tag : TagFields) → tag_end tag ≤ n → ends_in n tag ≡ true
-below_ends n tag h = grind (arith, nat_tests)
+below_ends n tag h = grind (arith)
 
 ends_most : (n : ℕ) (tags : List SentTags) → AllByRecursion (λ (s : SentTags). BothEndIn n s.pair) tags
     → tags_end tags ≤ n
 ends_most n [] all = omega arith
-ends_most n (s ∷ tags) all = grind (arith, nat_tests, ends_most n tags all.1, ends_below)
+ends_most n (s ∷ tags) all = grind (arith, ends_most n tags all.1, ends_below)
 
 most_ends : (n : ℕ) (tags : List SentTags) → tags_end tags ≤ n
     → AllByRecursion (λ (s : SentTags). BothEndIn n s.pair) tags
 most_ends n [] h = tt
-most_ends n (s ∷ tags) h = grind (arith, nat_tests, most_ends n tags (omega arith), below_ends)
+most_ends n (s ∷ tags) h = grind (arith, most_ends n tags (omega arith), below_ends)
 
 -- ---- the bytes that fragments have, with spaces between
 
@@ -68,7 +67,7 @@ fill_byte : (fragments : List Fragment) (i n k : ℕ) → k < n
     → slice_index (fill fragments i n) k ≡ byte_at fragments (i + k)
 fill_byte fragments i zero k h = absurd (omega arith)
 fill_byte fragments i (suc n) zero h = ap (byte_at fragments) (omega arith)
-fill_byte fragments i (suc n) (suc k) h = grind (arith, nat_tests, fill_byte fragments (i + 1) n k (omega arith))
+fill_byte fragments i (suc n) (suc k) h = grind (arith, fill_byte fragments (i + 1) n k (omega arith))
 
 filled_byte : (fragments : List Fragment) (n k : ℕ) → k < n → slice_index (fill fragments 0 n) k ≡ byte_at fragments k
 filled_byte fragments n k h = fill_byte fragments 0 n k h ∙ ap (byte_at fragments) (omega arith)
@@ -77,12 +76,12 @@ filled_byte fragments n k h = fill_byte fragments 0 n k h ∙ ap (byte_at fragme
 byte_is : (P : ℕ → Type 0) (fragments : List Fragment) (i : ℕ) → P 32
     → ((p : Fragment) → IsIn p fragments → p.address ≡ i / 4 → P (slice_index p.bytes (i % 4)))
     → P (byte_at fragments i)
-byte_is P fragments i space each = grind (arith, nat_tests, cell_from)
+byte_is P fragments i space each = grind (arith, cell_from)
 
 -- a fragment was sent at its address
 sent_some : (fragments : List Fragment) (q : Fragment) → IsIn q fragments → sent_last q.address fragments ≡ None → ⊥
 sent_some [] q i e = i
-sent_some (p ∷ older) q i e = grind (arith, nat_tests, sent_some older q)
+sent_some (p ∷ older) q i e = grind (arith, sent_some older q)
 
 -- ---- two segments at one address
 
@@ -92,7 +91,7 @@ limit_agree : (n i : ℕ) (bs cs : List ℕ) → length bs ≡ length cs → n <
 limit_agree n i [] cs long less k h up = absurd (omega arith)
 limit_agree n i (b ∷ bs) [] long less k h up = absurd (omega arith)
 limit_agree n i (b ∷ bs) (c ∷ cs) long less k h up =
-    grind (arith, nat_tests, limit_agree n (i + 1) bs cs (omega (arith, long)))
+    grind (arith, limit_agree n (i + 1) bs cs (omega (arith, long)))
 
 -- if they have the same bytes up to place n, the limit is above n
 agree_limit : (n i : ℕ) (bs cs : List ℕ) → n ≤ 64 → length bs ≡ length cs
@@ -176,13 +175,13 @@ module _ (g : Gauge) (is : IsGauge g) where
       → ((left_or l (bit_and l (those ok 65))).fits ≡ true)
       × (bit_at (left_or l (bit_and l (those ok 65))).lengths n ≡ 1)
   kept l n ok low b passes =
-      grind (arith, nat_tests, bit_at_and l (those ok 65) n, bit_those ok 65 n (omega arith), some_left)
+      grind (arith, bit_at_and l (those ok 65) n, bit_those ok 65 n (omega arith), some_left)
 
   -- a length that stays was left, and passes the test
   was_left : (l n : ℕ) (ok : ℕ → Bool) → (left_or l (bit_and l (those ok 65))).fits ≡ true
       → bit_at (left_or l (bit_and l (those ok 65))).lengths n ≡ 1 → (bit_at l n ≡ 1) × (ok n ≡ true)
   was_left l n ok fits b =
-      grind (arith, nat_tests, bit_at_and l (those ok 65) n, bit_those ok 65 n, bit_past ok 65 n, bit_at-lt l n)
+      grind (arith, bit_at_and l (those ok 65) n, bit_those ok 65 n, bit_past ok 65 n, bit_at-lt l n)
 
   -- ---- from a value to the set
 
@@ -221,7 +220,7 @@ module _ (g : Gauge) (is : IsGauge g) where
   value_allows x p older v a all None e other =
       and_from _ _ (is.stands x p v a).may (lt-ltb (length x) 65 (omega (arith, is.long _ (is.size x v))))
   value_allows x p older v a all (Some h) e other =
-      grind (arith, nat_tests, cell_from older p.address h e, all_in, under_limit, is.stands x p v a)
+      grind (arith, cell_from older p.address h e, all_in, under_limit, is.stands x p v a)
 
   -- the length of a value is left by its fragments, and each fits
   value_left : (x : List ℕ) (fragments : List Fragment) → g.kind.IsValue x
@@ -249,7 +248,7 @@ module _ (g : Gauge) (is : IsGauge g) where
       → may_stand g n (4 * p.address) p.bytes ≡ true
       → ((h : List ℕ) → sent_last p.address older ≡ Some h → (k : ℕ) → k < 4 → 4 * p.address + k < n
       → slice_index h k ≡ slice_index p.bytes k) → Fits n (p ∷ older)
-  fits_more n p older f may same r i = grind (arith, nat_tests, sent_some)
+  fits_more n p older f may same r i = grind (arith, sent_some)
 
   -- a held segment has the bytes of a fragment that is allowed beside it
   allowed_same : (b : Bool) (n : ℕ) (p : Fragment) (h : List ℕ) → length h ≡ length p.bytes → length h ≡ 4
@@ -364,7 +363,7 @@ text_stands x p t is = record {
 
     may : (k : ℕ) → k < 4 → in_text (length x) (4 * p.address + k) (slice_index p.bytes k) ≡ true
     may k h = rw (part_byte (text_body x) p k is h)
-        (grind (arith, nat_tests, is.within, f.address, t.at_most, t.allowed, text_below, text_end, text_past, text_long))
+        (grind (arith, is.within, f.address, t.at_most, t.allowed, text_below, text_end, text_past, text_long))
 
 -- a fragment that may stand is one of the body
 text_has : (x : List ℕ) (p : Fragment) → IsText x → IsFormed 16 p
@@ -381,16 +380,16 @@ text_has x p t f s = record {
     may k h = may_at text_gauge (length x) (4 * p.address) p.bytes s.may k (omega (arith, f.four))
 
     within : p.address < segment_count (text_body x)
-    within = grind (arith, nat_tests, may 0, text_long, text_full, f.address, t.at_most)
+    within = grind (arith, may 0, text_long, text_full, f.address, t.at_most)
 
     byte : (k : ℕ) → k < 4 → slice_index p.bytes k ≡ slice_index (text_body x) (4 * p.address + k)
-    byte k h = grind (arith, nat_tests, may k h, s.own k h, text_below, text_end, text_past, within, t.at_most)
+    byte k h = grind (arith, may k h, s.own k h, text_below, text_end, text_past, within, t.at_most)
 
 value_byte : (n b : ℕ) (i : ℕ) → i < n → (b ≡ 32) ⊎ (in_text n i b ≡ true) → is_text_byte b ≡ true
-value_byte n b i h or = grind (arith, nat_tests)
+value_byte n b i h or = grind (arith)
 
 some_length_is : (n : ℕ) → bit_at (2 ^ 65 - 1) n ≡ 1 → n ≤ 64
-some_length_is n b = grind (arith, nat_tests, bit_at_ones_above 65 n)
+some_length_is n b = grind (arith, bit_at_ones_above 65 n)
 
 is_text_gauge : IsGauge text_gauge
 is_text_gauge = record {
@@ -424,7 +423,7 @@ padded_stands x p t is = record {
 }
   where
     may : (k : ℕ) → k < 4 → in_padded_text (length x) (4 * p.address + k) (slice_index p.bytes k) ≡ true
-    may k h = grind (arith, nat_tests, is.bytes k h, is.within, t.at_most, t.allowed, text_below, text_end)
+    may k h = grind (arith, is.bytes k h, is.within, t.at_most, t.allowed, text_below, text_end)
 
 padded_has : (x : List ℕ) (p : Fragment) → IsText x → IsFormed 16 p
     → Stands padded_gauge (length x) (slice_index x) p → IsPaddedFragmentOf x p
@@ -434,7 +433,7 @@ padded_has x p t f s = record {
   fits = f.fits;
   bytes = λ k h up.
       let may = may_at padded_gauge (length x) (4 * p.address) p.bytes s.may k (omega (arith, f.four)) in
-      grind (arith, nat_tests, may, s.own k h, text_below, text_end, f.address, t.at_most);
+      grind (arith, may, s.own k h, text_below, text_end, f.address, t.at_most);
 }
 
 is_padded_gauge : IsGauge padded_gauge
@@ -447,11 +446,11 @@ is_padded_gauge = record {
   formed = λ x p t is. record { address = is.within; four = is.four; fits = is.fits };
   stands = padded_stands;
   same = λ x p q e a b at. absurd (cc e);
-  end = λ n b c h k. grind (arith, nat_tests);
+  end = λ n b c h k. grind (arith);
   value = λ x b fits each. record {
     at_most = some_length_is _ b;
     bytes = fits;
-    allowed = λ i h. grind (arith, nat_tests, each i h);
+    allowed = λ i h. grind (arith, each i h);
   };
   has = padded_has;
 }
@@ -461,7 +460,7 @@ padded_gauge_is_exact = gauge_exact padded_gauge is_padded_gauge
 
 -- texts of each form are measured exactly
 pub gauge_is_exact : (form : TextForm) → IsExact (gauge_of form)
-gauge_is_exact form = grind (arith, nat_tests, text_gauge_is_exact, padded_gauge_is_exact)
+gauge_is_exact form = grind (arith, text_gauge_is_exact, padded_gauge_is_exact)
 
 -- ---- names
 
@@ -469,7 +468,7 @@ name_alone : (x : List ℕ) → length x ≡ 8 → name_body x ≡ x
 name_alone x e = ap (λ k. x ++ replicate (8 - k) 32) e ∙ append-nil x
 
 name_formed : (x : List ℕ) (p : Fragment) → IsName x → IsFragmentOf (name_body x) p → IsFormed 2 p
-name_formed x p n is = grind (arith, nat_tests, name_alone, segment_long, segment_fits)
+name_formed x p n is = grind (arith, name_alone, segment_long, segment_fits)
 
 name_stands : (x : List ℕ) (p : Fragment) → IsName x → IsFragmentOf (name_body x) p
     → Stands name_gauge (length x) (slice_index x) p
@@ -486,7 +485,7 @@ name_stands x p n is = record {
         ∙ ap (λ (body : List ℕ). slice_index body (4 * p.address + k)) (name_alone x n.0)
 
     may : (k : ℕ) → k < 4 → in_name (length x) (4 * p.address + k) (slice_index p.bytes k) ≡ true
-    may k h = grind (arith, nat_tests, own k h, f.address, n.0, n.1.allowed (4 * p.address + k))
+    may k h = grind (arith, own k h, f.address, n.0, n.1.allowed (4 * p.address + k))
 
 name_has : (x : List ℕ) (p : Fragment) → IsName x → IsFormed 2 p
     → Stands name_gauge (length x) (slice_index x) p → IsFragmentOf (name_body x) p
@@ -501,7 +500,7 @@ name_has x p n f s =
     }
 
 eight : (n : ℕ) → bit_at (2 ^ 8) n ≡ 1 → n ≡ 8
-eight n b = grind (arith, nat_tests, bit_at-pow_other 8 n)
+eight n b = grind (arith, bit_at-pow_other 8 n)
 
 is_name_gauge : IsGauge name_gauge
 is_name_gauge = record {
@@ -513,13 +512,13 @@ is_name_gauge = record {
   formed = name_formed;
   stands = name_stands;
   same = λ x p q e a b at. a.bytes ∙ ap (segment_of (name_body x)) at ∙ sym b.bytes;
-  end = λ n b c h k. grind (arith, nat_tests);
+  end = λ n b c h k. grind (arith);
   value = λ x b fits each. (
     eight _ b,
     record {
       at_most = omega (arith, eight _ b);
       bytes = fits;
-      allowed = λ i h. grind (arith, nat_tests, each i h);
+      allowed = λ i h. grind (arith, each i h);
     },
   );
   has = name_has;

@@ -1,5 +1,4 @@
 -- Lemmas: a log passes exactly if it has plans, and then it is safe.
-use Rattle.std.proofs.lemmas.Bool.Decides.{nat_tests}
 use Rattle.std.proofs.Common.{ℕ, List, [], ◌∷◌, length, inl, inr, arith, ◌+◌, ◌<◌, Option, ◌≡◌, ◌≢◌, ◌⊎◌, ◌≤◌, sym}
 use Rattle.std.proofs.Common.{subst}
 use Rattle.rds_encoder.specs.Plan.{Broadcast, Covers, HasNumber}
@@ -36,7 +35,7 @@ module _ (laws : PlanLaws) (d : ℕ) (kind : Kind) (plan : List Broadcast) (spac
       → SomeReign (IsReignOf d kind b) rs
   has_reign n k t b p [] a q c h = absurd h
   has_reign n k t b p (r ∷ older) a q c (inr h) = inr (has_reign a.0 k t b p older a.5 q c h)
-  has_reign n k t b p (r ∷ older) a q c (inl h) = grind (arith, nat_tests)
+  has_reign n k t b p (r ∷ older) a q c (inl h) = grind (arith)
 
 -- the reigns are the broadcasts of each lawful and dense plan
 pub the_reigns : PlanLaws → (d : ℕ) (kind : Kind) (plan : List Broadcast) (sent : List Mark) → IsLawful d kind plan sent
@@ -68,7 +67,7 @@ passes_by_plans laws form d log pos = (log_has_plans laws form d log pos, plans_
 
 -- both laws of plans, for texts of this form
 pub by_form : (P : Kind → Type 0) → P texts → P padded_texts → (form : TextForm) → P (text_kind form)
-by_form P plain padded form = grind (arith, nat_tests)
+by_form P plain padded form = grind (arith)
 
 -- a log that passes is safe
 pub safe_log : PassesExactlyByPlans → ((form : TextForm) → LawfulPlansAreSafeAs (text_kind form))
@@ -100,8 +99,8 @@ of_each_two P below d kind (r ∷ e ∷ older) a all k b c (inl p) (inl q) = abs
 of_each_two P below d kind (r ∷ e ∷ older) a all k b c (inl p) (inr q) = search (arith, plan_from)
 of_each_two P below d kind (r ∷ e ∷ older) a all k b c (inr p) (inr q) =
     search (arith, of_each_two P below d kind (e ∷ older) a.1 all.1 k b c p q)
-of_each_two P below d kind (r ∷ e ∷ older) a all k b c (inr (inr p)) (inl q) = grind (arith, nat_tests, plan_from)
-of_each_two P below d kind (r ∷ e ∷ older) a all k b c (inr (inl p)) (inl q) = grind (arith, nat_tests)
+of_each_two P below d kind (r ∷ e ∷ older) a all k b c (inr (inr p)) (inl q) = grind (arith, plan_from)
+of_each_two P below d kind (r ∷ e ∷ older) a all k b c (inr (inl p)) (inl q) = grind (arith)
 
 -- one property follows from another
 of_each_two_too : (P Q : Reign → Reign → Type 0) → ((r next : Reign) → P r next → Q r next) → (rs : List Reign)
@@ -163,11 +162,11 @@ safe_by_flag laws safe_texts safe_names safe_tags d log some passes =
 
 after_fragment_alternate : (d slot : ℕ) (p : Fragment) (rs : List Reign) → IsSoonAfter d slot rs → AlternateFlags rs
     → AlternateFlags (after_fragment d slot p rs)
-after_fragment_alternate d slot p rs soon all = grind (arith, nat_tests)
+after_fragment_alternate d slot p rs soon all = grind (arith)
 
 after_tags_alternate : (slot : ℕ) (pair : PairFields) (rs : List Reign) → AlternateFlags rs
     → AlternateFlags (after_tags slot pair rs)
-after_tags_alternate slot pair rs all = grind (arith, nat_tests)
+after_tags_alternate slot pair rs all = grind (arith)
 
 -- without a pause the flag turns from each reign to the next one
 pub alternate : (d : ℕ) (sent : List Mark) → HasNoPause d sent → AlternateFlags (reigns d sent)

@@ -1,5 +1,4 @@
 -- Lemmas: the reigns of a log that passes are a lawful and dense plan.
-use Rattle.std.proofs.lemmas.Bool.Decides.{nat_tests}
 use Rattle.std.proofs.Common.{◌≡◌, ◌≢◌, ◌⊎◌, ◌+◌, ◌<◌, ◌≤◌, ℕ, Bool, List, [], ◌∷◌, length, refl, sym, ap, subst, inl}
 use Rattle.std.proofs.Common.{inr, arith}
 use Rattle.std.specs.List.{AllByRecursion}
@@ -29,7 +28,7 @@ IsChained d (r ∷ older) = (r.start ≡ start_after d r.flag older) × IsChaine
 
 pub chained : (d : ℕ) (sent : List Mark) → IsChained d (reigns d sent)
 chained d [] = tt
-chained d (x ∷ sent) = grind (arith, nat_tests, chained d sent)
+chained d (x ∷ sent) = grind (arith, chained d sent)
 
 -- the fragment, or the tags, of slot t belong to the reign
 pub record HoldsFragment (t : ℕ) (p : Fragment) (r : Reign) : Type 0 where
@@ -45,24 +44,24 @@ pub record HoldsTags (t : ℕ) (pair : PairFields) (r : Reign) : Type 0 where
 -- one more slot keeps the marks that the reigns hold
 fragment_stays : (d now t : ℕ) (p q : Fragment) (rs : List Reign) → t ≤ now → SomeReign (HoldsFragment t p) rs
     → SomeReign (HoldsFragment t p) (after_fragment d now q rs)
-fragment_stays d now t p q rs le h = grind (arith, nat_tests)
+fragment_stays d now t p q rs le h = grind (arith)
 
 fragment_stays_tagged : (now t : ℕ) (p : Fragment) (pair : PairFields) (rs : List Reign) → t ≤ now
     → SomeReign (HoldsFragment t p) rs → SomeReign (HoldsFragment t p) (after_tags now pair rs)
-fragment_stays_tagged now t p pair rs le h = grind (arith, nat_tests)
+fragment_stays_tagged now t p pair rs le h = grind (arith)
 
 tags_stay : (d now t : ℕ) (pair : PairFields) (q : Fragment) (rs : List Reign) → t ≤ now
     → SomeReign (HoldsTags t pair) rs → SomeReign (HoldsTags t pair) (after_fragment d now q rs)
-tags_stay d now t pair q rs le h = grind (arith, nat_tests)
+tags_stay d now t pair q rs le h = grind (arith)
 
 tags_stay_tagged : (now t : ℕ) (pair other : PairFields) (rs : List Reign) → t ≤ now → SomeReign (HoldsTags t pair) rs
     → SomeReign (HoldsTags t pair) (after_tags now other rs)
-tags_stay_tagged now t pair other rs le h = grind (arith, nat_tests)
+tags_stay_tagged now t pair other rs le h = grind (arith)
 
 -- the newest reign holds a new fragment
 new_fragment : (d now : ℕ) (p : Fragment) (sent : List Mark) (rs : List Reign) → now ≡ length sent → Keeps d sent rs
     → SomeReign (HoldsFragment now p) (after_fragment d now p rs)
-new_fragment d now p sent rs e k = grind (arith, nat_tests, early, same_flag)
+new_fragment d now p sent rs e k = grind (arith, early, same_flag)
 
 -- each fragment that was sent is in a reign
 pub fragment_held : (d : ℕ) (sent : List Mark) (t : ℕ) (p : Fragment) → IsMarkIn sent t (Sends p)
@@ -70,13 +69,13 @@ pub fragment_held : (d : ℕ) (sent : List Mark) (t : ℕ) (p : Fragment) → Is
 fragment_held d [] t p s = absurd s
 fragment_held d (Nothing ∷ sent) t p (inr s) = fragment_held d sent t p s
 fragment_held d (Tagged pair ∷ sent) t p (inr s) =
-    grind (arith, nat_tests, fragment_held d sent t p s, early, fragment_stays_tagged)
+    grind (arith, fragment_held d sent t p s, early, fragment_stays_tagged)
 fragment_held d (Sends q ∷ sent) t p (inr s) =
-    grind (arith, nat_tests, fragment_held d sent t p s, early, fragment_stays)
-fragment_held d (x ∷ sent) t p (inl s) = grind (arith, nat_tests, new_fragment, keeps)
+    grind (arith, fragment_held d sent t p s, early, fragment_stays)
+fragment_held d (x ∷ sent) t p (inl s) = grind (arith, new_fragment, keeps)
 
 after_before : (x : Mark) (sent : List Mark) → TagsAreAfter (x ∷ sent) → TagsAreAfter sent
-after_before x sent h t pair s = grind (arith, nat_tests, early, sent_before)
+after_before x sent h t pair s = grind (arith, early, sent_before)
 
 new_tags : (d : ℕ) (pair : PairFields) (sent : List Mark) (rs : List Reign) → (u : ℕ) (p : Fragment)
     → IsMarkIn (Tagged pair ∷ sent) u (Sends p) → u < length sent → Keeps d sent rs
@@ -90,10 +89,10 @@ pub tags_held : (d : ℕ) (sent : List Mark) → TagsAreAfter sent → (t : ℕ)
 tags_held d [] h t pair s = absurd s
 tags_held d (Nothing ∷ sent) h t pair (inr s) = tags_held d sent (after_before Nothing sent h) t pair s
 tags_held d (Sends q ∷ sent) h t pair (inr s) =
-    grind (arith, nat_tests, tags_held d sent (after_before (Sends q) sent h) t pair s, early, tags_stay, after_before)
+    grind (arith, tags_held d sent (after_before (Sends q) sent h) t pair s, early, tags_stay, after_before)
 tags_held d (Tagged other ∷ sent) h t pair (inr s) =
     let before = after_before (Tagged other) sent h in
-    grind (arith, nat_tests, tags_held d sent before t pair s, early, tags_stay_tagged)
+    grind (arith, tags_held d sent before t pair s, early, tags_stay_tagged)
 tags_held d (Tagged other ∷ sent) h t pair (inl s) =
     let e : Tagged pair ≡ Tagged other = s.1 in
     let same : pair ≡ other = cc in
@@ -101,7 +100,7 @@ tags_held d (Tagged other ∷ sent) h t pair (inl s) =
     subst (λ (g : PairFields). SomeReign (HoldsTags t g) (after_tags (length sent) other (reigns d sent))) (sym same)
     (subst (λ (n : ℕ). SomeReign (HoldsTags n other) (after_tags (length sent) other (reigns d sent))) (sym s.0)
     (new_tags d other sent (reigns d sent) w.slot w.fragment w.is_sent w.before (keeps d sent)))
-tags_held d (x ∷ sent) h t pair (inl s) = grind (arith, nat_tests)
+tags_held d (x ∷ sent) h t pair (inl s) = grind (arith)
 
 -- a broadcast for each reign
 abbrev pub plan_from : (d : ℕ) (kind : Kind) (rs : List Reign) → AllByRecursion (CanBeBroadcast d kind) rs
@@ -114,18 +113,18 @@ lasting : (d : ℕ) (kind : Kind) (sent : List Mark) (rs : List Reign) (a : AllB
     → AreKept d sent rs → (k : ℕ) (b : Broadcast) → HasNumber (plan_from d kind rs a) k b → b.start ≤ b.end
 lasting d kind sent [] a keep k b n = absurd n
 lasting d kind sent (r ∷ older) a keep k b (inr n) = lasting d kind sent older a.1 keep.2 k b n
-lasting d kind sent (r ∷ older) a keep k b (inl n) = grind (arith, nat_tests)
+lasting d kind sent (r ∷ older) a keep k b (inl n) = grind (arith)
 
 starts_after : (d : ℕ) (flag : Bool) (r : Reign) (older : List Reign) → 0 < d → r.last < start_after d flag (r ∷ older)
-starts_after d flag r older pos = grind (arith, nat_tests)
+starts_after d flag r older pos = grind (arith)
 
 starts_apart : (d : ℕ) (flag : Bool) (r : Reign) (older : List Reign)
     → (r.flag ≢ flag) ⊎ (r.last + d ≤ start_after d flag (r ∷ older))
-starts_apart d flag r older = grind (arith, nat_tests, other_flag)
+starts_apart d flag r older = grind (arith, other_flag)
 
 starts_far : (d : ℕ) (flag : Bool) (r q : Reign) (older : List Reign) → q.last ≤ r.last
     → q.last + d ≤ start_after d flag (r ∷ q ∷ older)
-starts_far d flag r q older le = grind (arith, nat_tests)
+starts_far d flag r q older le = grind (arith)
 
 ordering : ANumberIsBelowTheLength
     → (d : ℕ) (kind : Kind) (rs : List Reign) (a : AllByRecursion (CanBeBroadcast d kind) rs) → 0 < d → IsChained d rs
@@ -134,12 +133,12 @@ ordering : ANumberIsBelowTheLength
     → (x.end < y.start) × ((x.flag ≢ y.flag) ⊎ (x.end + d ≤ y.start))
 ordering below d kind [] a pos c k x y p q = absurd p
 ordering below d kind (r ∷ older) a pos c k x y (inl p) (inl q) = absurd (omega (arith, p.0, q.0))
-ordering below d kind (r ∷ older) a pos c k x y (inl p) (inr q) = grind (arith, nat_tests)
+ordering below d kind (r ∷ older) a pos c k x y (inl p) (inr q) = grind (arith)
 ordering below d kind (r ∷ older) a pos c k x y (inr p) (inr q) = ordering below d kind older a.1 pos c.1 k x y p q
 ordering below d kind (r ∷ []) a pos c k x y (inr p) (inl q) = absurd p
-ordering below d kind (r ∷ e ∷ older) a pos c k x y (inr (inr p)) (inl q) = grind (arith, nat_tests)
+ordering below d kind (r ∷ e ∷ older) a pos c k x y (inr (inr p)) (inl q) = grind (arith)
 ordering below d kind (r ∷ e ∷ older) a pos c k x y (inr (inl p)) (inl q) =
-    grind (arith, nat_tests, starts_after, starts_apart)
+    grind (arith, starts_after, starts_apart)
 
 distance : ANumberIsBelowTheLength
     → (d : ℕ) (kind : Kind) (sent : List Mark) (rs : List Reign) (a : AllByRecursion (CanBeBroadcast d kind) rs) → 0 < d
@@ -147,15 +146,15 @@ distance : ANumberIsBelowTheLength
     → HasNumber (plan_from d kind rs a) k x → HasNumber (plan_from d kind rs a) (k + 2) y → x.end + d ≤ y.start
 distance below d kind sent [] a pos c keep k x y p q = absurd p
 distance below d kind sent (r ∷ older) a pos c keep k x y (inl p) (inl q) = absurd (omega (arith, p.0, q.0))
-distance below d kind sent (r ∷ older) a pos c keep k x y (inl p) (inr q) = grind (arith, nat_tests)
+distance below d kind sent (r ∷ older) a pos c keep k x y (inl p) (inr q) = grind (arith)
 distance below d kind sent (r ∷ older) a pos c keep k x y (inr p) (inr q) =
-    grind (arith, nat_tests, distance below d kind sent older a.1 pos c.1 keep.2 k x y p q)
+    grind (arith, distance below d kind sent older a.1 pos c.1 keep.2 k x y p q)
 distance below d kind sent (r ∷ []) a pos c keep k x y (inr p) (inl q) = absurd p
 distance below d kind sent (r ∷ e ∷ older) a pos c keep k x y (inr (inl p)) (inl q) = absurd (omega (arith, p.0, q.0))
 distance below d kind sent (r ∷ e ∷ []) a pos c keep k x y (inr (inr p)) (inl q) = absurd p
-distance below d kind sent (r ∷ e ∷ f ∷ older) a pos c keep k x y (inr (inr (inr p))) (inl q) = grind (arith, nat_tests)
+distance below d kind sent (r ∷ e ∷ f ∷ older) a pos c keep k x y (inr (inr (inr p))) (inl q) = grind (arith)
 distance below d kind sent (r ∷ e ∷ f ∷ older) a pos c keep k x y (inr (inr (inl p))) (inl q) =
-    grind (arith, nat_tests, starts_after, starts_far)
+    grind (arith, starts_after, starts_far)
 
 valued : (d : ℕ) (kind : Kind) (rs : List Reign) (a : AllByRecursion (CanBeBroadcast d kind) rs)
     → (k : ℕ) (b : Broadcast) → HasNumber (plan_from d kind rs a) k b → kind.IsValue b.bytes
@@ -171,7 +170,7 @@ fragment_planned : (d : ℕ) (kind : Kind) (t : ℕ) (p : Fragment) (rs : List R
     → HasOne (plan_from d kind rs a) (HasFragment kind t p)
 fragment_planned d kind t p [] a h = absurd h
 fragment_planned d kind t p (r ∷ older) a (inr h) =
-    grind (arith, nat_tests, fragment_planned d kind t p older a.1 h, wider)
+    grind (arith, fragment_planned d kind t p older a.1 h, wider)
 fragment_planned d kind t p (r ∷ older) a (inl h) = record {
   number = length (plan_from d kind older a.1);
   broadcast = record { start = r.start; end = r.last; flag = r.flag; bytes = a.0.one.value };
@@ -184,7 +183,7 @@ tags_planned : (d : ℕ) (kind : Kind) (t : ℕ) (pair : PairFields) (rs : List 
     → HasOne (plan_from d kind rs a) (HasTags d t pair)
 tags_planned d kind t pair [] a h = absurd h
 tags_planned d kind t pair (r ∷ older) a (inr h) =
-    grind (arith, nat_tests, tags_planned d kind t pair older a.1 h, wider)
+    grind (arith, tags_planned d kind t pair older a.1 h, wider)
 tags_planned d kind t pair (r ∷ older) a (inl h) = record {
   number = length (plan_from d kind older a.1);
   broadcast = record { start = r.start; end = r.last; flag = r.flag; bytes = a.0.one.value };
@@ -196,7 +195,7 @@ tags_planned d kind t pair (r ∷ older) a (inl h) = record {
 since_opened : (d : ℕ) (sent : List Mark) (r : Reign) (older : List Reign) (u : ℕ) → 0 < d
     → r.start ≡ start_after d r.flag older → r.start ≤ u → IsBehind sent older u → (q : Fragment)
     → IsMarkIn sent u (Sends q) → ⊥
-since_opened d sent r older u pos c from b q s = grind (arith, nat_tests)
+since_opened d sent r older u pos c from b q s = grind (arith)
 
 dense_fragments : (d : ℕ) (kind : Kind) (sent : List Mark) (rs : List Reign) (a : AllByRecursion (CanBeBroadcast d kind)
     rs) → 0 < d → IsChained d rs → AreKept d sent rs
@@ -205,7 +204,7 @@ dense_fragments : (d : ℕ) (kind : Kind) (sent : List Mark) (rs : List Reign) (
     → IsBridged d sent u t
 dense_fragments d kind sent [] a pos c keep k b u t q p n cu ct su st lt = absurd n
 dense_fragments d kind sent (r ∷ older) a pos c keep k b u t q p (inr n) cu ct su st lt =
-    grind (arith, nat_tests, dense_fragments d kind sent older a.1 pos c.1 keep.2 k b u t q p n cu ct su st lt)
+    grind (arith, dense_fragments d kind sent older a.1 pos c.1 keep.2 k b u t q p n cu ct su st lt)
 dense_fragments d kind sent (r ∷ older) a pos c keep k b u t q p (inl n) cu ct su st lt =
     let start : b.start ≡ r.start = ap (λ (x : Broadcast). x.start) n.1 in
     let end : b.end ≡ r.last = ap (λ (x : Broadcast). x.end) n.1 in
@@ -219,9 +218,9 @@ opened_before : (d : ℕ) (sent : List Mark) (r : Reign) (older : List Reign) (t
     → TagsAreAfter sent → r.start ≡ start_after d r.flag older → r.start ≤ t
     → ((u : ℕ) → IsMarked sent u → u < r.opened → IsBehind sent older u) → IsMarkIn sent t (Tagged pair) → t < r.opened
     → ⊥
-opened_before d sent r [] t pair pos h c from gap s lt = grind (arith, nat_tests, fragment_is_marked)
+opened_before d sent r [] t pair pos h c from gap s lt = grind (arith, fragment_is_marked)
 opened_before d sent r (e ∷ older) t pair pos h c from gap s lt =
-    grind (arith, nat_tests, starts_after, tags_are_marked)
+    grind (arith, starts_after, tags_are_marked)
 
 dense_tags : (d : ℕ) (kind : Kind) (sent : List Mark) (rs : List Reign) (a : AllByRecursion (CanBeBroadcast d kind) rs)
     → 0 < d → TagsAreAfter sent → IsChained d rs → AreKept d sent rs
@@ -230,9 +229,9 @@ dense_tags : (d : ℕ) (kind : Kind) (sent : List Mark) (rs : List Reign) (a : A
     → HasFragmentBefore sent b t
 dense_tags d kind sent [] a pos h c keep k b t pair n ct st = absurd n
 dense_tags d kind sent (r ∷ older) a pos h c keep k b t pair (inr n) ct st =
-    grind (arith, nat_tests, dense_tags d kind sent older a.1 pos h c.1 keep.2 k b t pair n ct st)
+    grind (arith, dense_tags d kind sent older a.1 pos h c.1 keep.2 k b t pair n ct st)
 dense_tags d kind sent (r ∷ older) a pos h c keep k b t pair (inl n) ct st =
-    grind (arith, nat_tests, one_mark, opened_before)
+    grind (arith, one_mark, opened_before)
 
 -- a service that passes has the plan of its reigns
 pub has_plan_of_reigns : ANumberIsBelowTheLength → (d : ℕ) (kind : Kind) (sent : List Mark) → 0 < d
@@ -261,25 +260,25 @@ has_plan below d kind sent pos h = (has_plan_of_reigns below d kind sent pos h).
 
 opened_of : (d now : ℕ) (kind : Kind) (b : Broadcast) (p : Fragment) (rs : List Reign)
     → start_after d p.flag rs ≤ b.start → HasFragment kind now p b → IsReignOf d kind b (opened_by d now p rs)
-opened_of d now kind b p rs le has = grind (arith, nat_tests)
+opened_of d now kind b p rs le has = grind (arith)
 
 module _ (laws : PlanLaws) (d : ℕ) (kind : Kind) (plan : List Broadcast) (spaced : IsSpaced d plan) where
   past_newest_before : (k l : ℕ) (b : Broadcast) (rs : List Reign) → HasNumber plan l b → k < l
       → AreReignsOf d kind plan k rs → past_newest d rs ≤ b.start
-  past_newest_before k l b rs q lt a = grind (arith, nat_tests)
+  past_newest_before k l b rs q lt a = grind (arith)
 
   -- a reign that is opened in a later broadcast starts no later than this broadcast
   start_before : (k l : ℕ) (c b : Broadcast) (flag : Bool) (r : Reign) (older : List Reign)
       → HasNumber plan k c → HasNumber plan l b → k < l → flag ≡ b.flag → IsReignOf d kind c r
       → AreReignsOf d kind plan k older → start_after d flag (r ∷ older) ≤ b.start
-  start_before k l c b flag r older p q lt e of a = grind (arith, nat_tests, same_flag, past_newest_before)
+  start_before k l c b flag r older p q lt e of a = grind (arith, same_flag, past_newest_before)
 
   -- a fragment that is sent in a later broadcast opens a reign
   fragment_opens : (now n k l : ℕ) (c b : Broadcast) (p : Fragment) (r : Reign) (older : List Reign)
       → HasNumber plan k c → HasNumber plan l b → k < l → l < n → HasFragment kind now p b → IsReignOf d kind c r
       → AreReignsOf d kind plan k older → AreReignsOf d kind plan n (after_fragment d now p (r ∷ older))
   fragment_opens now n k l c b p r older pc pb lt ln has of a =
-      grind (arith, nat_tests, same_flag, opened_of, start_before)
+      grind (arith, same_flag, opened_of, start_before)
 
   -- broadcasts with one number are equal
   same_broadcast : (k l : ℕ) (a b : Broadcast) → HasNumber plan k a → HasNumber plan l b → k ≡ l → a ≡ b
@@ -290,7 +289,7 @@ module _ (laws : PlanLaws) (d : ℕ) (kind : Kind) (plan : List Broadcast) (spac
       → IsDense d plan (Sends p ∷ sent) → HasNumber plan l b → l < n → HasFragment kind (length sent) p b
       → Keeps d sent rs → AreReignsOf d kind plan n rs
       → AreReignsOf d kind plan n (after_fragment d (length sent) p rs)
-  fragment_of n l sent b p [] dense q lt has k a = grind (arith, nat_tests, opened_of)
+  fragment_of n l sent b p [] dense q lt has k a = grind (arith, opened_of)
   fragment_of n l sent b p (r ∷ older) dense q lt has keep a =
       elim (cases_order a.0 l) [
         | inl same ↦
@@ -303,7 +302,7 @@ module _ (laws : PlanLaws) (d : ℕ) (kind : Kind) (plan : List Broadcast) (spac
             (inl (refl, refl)) first in
             let near : length sent < r.last + d = omega
             (arith, w.near, keep.1 w.slot (marked_before (Sends p) sent w.slot w.before w.marked)) in
-            grind (arith, nat_tests)
+            grind (arith)
         | inr other ↦ search (arith, fragment_opens, early)
       ]
 
@@ -323,21 +322,21 @@ pub are_reigns_of : PlanLaws → (d : ℕ) (kind : Kind) (plan : List Broadcast)
     → IsLawful d kind plan sent → IsDense d plan sent → AreReignsOf d kind plan (length plan) (reigns d sent)
 are_reigns_of laws d kind plan [] law dense = tt
 are_reigns_of laws d kind plan (Nothing ∷ sent) law dense =
-    grind (arith, nat_tests, are_reigns_of laws d kind plan sent, lawful_before, dense_before)
+    grind (arith, are_reigns_of laws d kind plan sent, lawful_before, dense_before)
 are_reigns_of laws d kind plan (Sends p ∷ sent) law dense =
     let before = are_reigns_of laws d kind plan sent (lawful_before d kind plan (Sends p) sent law)
     (dense_before d plan (Sends p) sent dense) in
     let w = law.fragments (length sent) p (inl (refl, refl)) in
     let lawful = lawful_before d kind plan (Sends p) sent law in
     let filled = dense_before d plan (Sends p) sent dense in
-    grind (arith, nat_tests, are_reigns_of laws d kind plan sent lawful filled, fragment_of, keeps)
+    grind (arith, are_reigns_of laws d kind plan sent lawful filled, fragment_of, keeps)
 are_reigns_of laws d kind plan (Tagged pair ∷ sent) law dense =
     let before = are_reigns_of laws d kind plan sent (lawful_before d kind plan (Tagged pair) sent law)
     (dense_before d plan (Tagged pair) sent dense) in
     let w = law.tags (length sent) pair (inl (refl, refl)) in
     let lawful = lawful_before d kind plan (Tagged pair) sent law in
     let filled = dense_before d plan (Tagged pair) sent dense in
-    grind (arith, nat_tests, are_reigns_of laws d kind plan sent lawful filled, tags_of, keeps)
+    grind (arith, are_reigns_of laws d kind plan sent lawful filled, tags_of, keeps)
 
 all_lasted : (d start : ℕ) (b : Broadcast) (tags : List SentTags) → start ≤ b.start
     → AllByRecursion (AreTagsOf d b) tags → AllByRecursion (λ (s : SentTags). start + d ≤ s.slot) tags

@@ -1,10 +1,7 @@
 -- Lemmas: a recording that passes is safe for the receivers of the log as it is. The view of each of them is that of a
 -- receiver of what was judged.
-use Rattle.std.proofs.lemmas.Bool.Decides.{nat_tests}
 use Rattle.std.proofs.Common.{◌≡◌, ◌+◌, ◌<◌, ℕ, true, List, [], ◌∷◌, Option, Some, None, length, map, option_map, refl}
-use Rattle.std.proofs.Common.{sym, ap, ◌∙◌, inl, inr, arith}
-use Rattle.std.specs.List.{All}
-use Rattle.std.specs.Prelude.{IfSome}
+use Rattle.std.proofs.Common.{sym, ap, ◌∙◌, inl, inr, arith, All, IfSome}
 use Rattle.std.proofs.lemmas.List.{length-map}
 use Rattle.std.proofs.lemmas.List.Elements.{All-cons, All-head, All-map, All-nil, All-tail, All-weaker}
 use Rattle.rds_fields.specs.declared.message.Message.{Message}
@@ -50,7 +47,7 @@ was_origin n first (o ∷ origins) t origin (inl h) = record {
   came = inl (h.0 ∙ ap (λ (i : ℕ). first + i) (length-map origins (option_map (λ (s : ℕ). s + n))), refl);
   is = h.1;
 }
-was_origin n first (o ∷ origins) t origin (inr h) = grind (arith, nat_tests, was_origin n first origins t origin h)
+was_origin n first (o ∷ origins) t origin (inr h) = grind (arith, was_origin n first origins t origin h)
 
 record WasSent (n first : ℕ) (origins : List (Option ℕ)) (t s : ℕ) : Type 0 where
   slot : ℕ
@@ -128,7 +125,7 @@ module _ (n : ℕ) (log : List (Option Message)) (r : Listener) (order : IsHeard
   shows m is =
       let held = held_same (preceded n log) m r.input.first r.input.heard (origins_later n r.input.origins) beside
       tags_count in
-      grind (arith, nat_tests, held_same, beside, tags_count, texts_same, names_same)
+      grind (arith, held_same, beside, tags_count, texts_same, names_same)
 
 listens_judging : (d m now n : ℕ) (log : List (Option Message)) (r : Listener) → ListensByOwnClock d m now log r
     → ListensByOwnClock d m (now + n) (from_first_text (preceded n log)) (judging n log r)
@@ -153,18 +150,18 @@ listens_judging d m now n log r listens = record {
 source_from : (n : ℕ) (log : List (Option Message)) (r : Listener) (plan : List Broadcast) (gs hs : List Segment)
     (k : ℕ) (b : Broadcast) → gs ≡ hs
     → IsSource plan (judging n log r).input gs k b → IsSource plan (later n r).input hs k b
-source_from n log r plan gs hs k b e h = grind (arith, nat_tests)
+source_from n log r plan gs hs k b e h = grind (arith)
 
 source_to : (n : ℕ) (log : List (Option Message)) (r : Listener) (plan : List Broadcast) (gs hs : List Segment) (k : ℕ)
     (b : Broadcast) → gs ≡ hs
     → IsSource plan (later n r).input hs k b → IsSource plan (judging n log r).input gs k b
-source_to n log r plan gs hs k b e h = grind (arith, nat_tests)
+source_to n log r plan gs hs k b e h = grind (arith)
 
 on_air : (n : ℕ) (log : List (Option Message)) (r : Listener) (d t : ℕ) (plan : List Broadcast) (gs hs : List Segment)
     (shown : Option (List ℕ)) → gs ≡ hs
     → IfSome shown (RunWasOnAir d t plan (judging n log r).input gs)
     → IfSome shown (RunWasOnAir d t plan (later n r).input hs)
-on_air n log r d t plan gs hs shown e h = grind (arith, nat_tests)
+on_air n log r d t plan gs hs shown e h = grind (arith)
 
 module _ (n d m t : ℕ) (plans : Plans) (log : List (Option Message)) where
   text_runs : (r : Listener) → text_run m (judging n log r).input ≡ text_run m (later n r).input
@@ -174,14 +171,14 @@ module _ (n d m t : ℕ) (plans : Plans) (log : List (Option Message)) where
   name_runs r = names_same (preceded n log) m r.input.first r.input.heard (origins_later n r.input.origins)
 
   shows_text : (r : Listener) → ShowsTextOnAir d m t plans (judging n log r) → ShowsTextOnAir d m t plans (later n r)
-  shows_text r h = grind (arith, nat_tests, on_air, text_runs)
+  shows_text r h = grind (arith, on_air, text_runs)
 
   shows_name : (r : Listener) → ShowsNameOnAir d m t plans (judging n log r) → ShowsNameOnAir d m t plans (later n r)
-  shows_name r h = grind (arith, nat_tests, on_air, name_runs)
+  shows_name r h = grind (arith, on_air, name_runs)
 
   shows_tags : (r : Listener) → ShowsTagsOfItsText d m plans (from_first_text (preceded n log)) (judging n log r)
       → ShowsTagsOfItsText d m plans (preceded n log) (later n r)
-  shows_tags r h1 = grind (arith, nat_tests, source_from, text_runs, tags_are_of_the_log)
+  shows_tags r h1 = grind (arith, source_from, text_runs, tags_are_of_the_log)
 
   near : (x y : Listener) → AreNeighbours m plans (judging n log x) (judging n log y)
       → AreNeighbours m plans (later n x) (later n y)
@@ -247,4 +244,4 @@ safe_recording law own late slow form m k log pos p =
 pub safe_as_it_is : WhatPassesAsARecordingIsSafe → (form : TextForm) (m k : ℕ) (start : LogStart)
     (heard : List (Option Message)) → start ≡ Running → 0 < m → LogPasses form (m + k) (judged_as start (m + k) heard)
     → IsSafeRecording form m k heard
-safe_as_it_is law form m k start heard running pos passes = grind (arith, nat_tests)
+safe_as_it_is law form m k start heard running pos passes = grind (arith)

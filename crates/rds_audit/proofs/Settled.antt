@@ -1,9 +1,7 @@
 -- Lemmas: what a receiver shows stays the same if the tags that it heard before the first text segment of a log are
 -- left out of its input.
-use Rattle.std.proofs.lemmas.Bool.Decides.{nat_tests}
 use Rattle.std.proofs.Common.{◌≡◌, ◌+◌, ◌<◌, ◌≤◌, ◌&&◌, ◌||◌, ℕ, suc, Bool, true, false, List, [], ◌∷◌, Option, Some}
-use Rattle.std.proofs.Common.{None, length, refl, ap, ◌∙◌, inl, inr, arith, ◌⊎◌}
-use Rattle.std.specs.Prelude.{nat_lt, if◌then◌else◌}
+use Rattle.std.proofs.Common.{None, length, refl, ap, ◌∙◌, inl, inr, arith, ◌⊎◌, nat_lt, if◌then◌else◌}
 use Rattle.std.proofs.lemmas.Bool.{and_right, le-ltb, lt-ltb, or_right, ltb-true}
 use Rattle.std.proofs.lemmas.List.{length-append, length-replicate}
 use Rattle.rds_fields.specs.declared.message.Message.{Message}
@@ -21,7 +19,7 @@ use Rattle.rds_receiver.specs.Tags.{is_known, pair_from, pair_held, pair_since}
 -- ---- the slots in front
 
 length_preceded : (n : ℕ) (log : List (Option Message)) → length (preceded n log) ≡ length log + n
-length_preceded n log = grind (arith, nat_tests, length-append, length-replicate)
+length_preceded n log = grind (arith, length-append, length-replicate)
 
 -- what was sent is sent n slots later
 pub sent_later : (n : ℕ) (log : List (Option Message)) (s : ℕ) (entry : Option Message) → SentIn log s entry
@@ -57,12 +55,12 @@ pub after_text : (log : List (Option Message)) (s : ℕ) (f : Bool) (a : ℕ) (b
 after_text [] s f a b v h later = absurd h
 after_text (newest ∷ before) s f a b v (inl h) later = rw (← h.1, lt-ltb (length before) v (omega (arith, h.0)))
 after_text (newest ∷ before) s f a b v (inr h) later =
-    grind (arith, nat_tests, after_text before s f a b v h later, or_right)
+    grind (arith, after_text before s f a b v h later, or_right)
 
 -- at the end of a log
 all_before : (log : List (Option Message)) (s : ℕ) → length log ≤ s → text_before log s ≡ has_text (from_first_text log)
 all_before [] s h = refl
-all_before (x ∷ before) s h = grind (arith, nat_tests, all_before before s (omega arith))
+all_before (x ∷ before) s h = grind (arith, all_before before s (omega arith))
 
 same_length : (log : List (Option Message)) → length (from_first_text log) ≡ length log
 same_length [] = refl
@@ -70,18 +68,18 @@ same_length (newest ∷ before) = ap suc (same_length before)
 
 settled_is_counted : (judged : List (Option Message)) (message : Option Message)
     → settled (has_text judged) message ≡ counted_after judged message
-settled_is_counted judged message = grind (arith, nat_tests)
+settled_is_counted judged message = grind (arith)
 
 -- what was sent is still sent from the first text segment on, except tags before it
 pub sent_from_first_text : (log : List (Option Message)) (s : ℕ) (entry : Option Message) → SentIn log s entry
     → SentIn (from_first_text log) s (settled (text_before log s) entry)
 sent_from_first_text [] s entry h = absurd h
 sent_from_first_text (newest ∷ before) s entry (inl h) =
-    grind (arith, nat_tests, newest_not, all_before, same_length, settled_is_counted)
+    grind (arith, newest_not, all_before, same_length, settled_is_counted)
 sent_from_first_text (newest ∷ before) s entry (inr h) =
     let counts : text_before (newest ∷ before) s ≡ text_before before s = newest_not newest before s
     (omega (arith, before_end 0 before s entry h)) in
-    grind (arith, nat_tests, sent_from_first_text before s entry h)
+    grind (arith, sent_from_first_text before s entry h)
 
 -- ---- marks
 
@@ -138,19 +136,19 @@ pub was_heard_as : (log : List (Option Message)) (first : ℕ) (heard : List (Op
 was_heard_as log first [] origins t origin entry e a b = absurd b
 was_heard_as log first (h ∷ heard) [] t origin entry e a b = absurd a
 was_heard_as log first (h ∷ heard) (o ∷ origins) t origin entry e (inl a) (inl b) =
-    grind (arith, nat_tests, settle_long, settled)
+    grind (arith, settle_long, settled)
 was_heard_as log first (h ∷ heard) (o ∷ origins) t origin entry e (inl a) (inr b) = absurd
     (omega (arith, a.0, settle_long log heard origins, before_end first (settle log heard origins) t entry b))
 was_heard_as log first (h ∷ heard) (o ∷ origins) t origin entry e (inr a) (inl b) = absurd
     (omega (arith, b.0, settle_long log heard origins, before_end first origins t origin a))
 was_heard_as log first (h ∷ heard) (o ∷ origins) t origin entry e (inr a) (inr b) =
-    grind (arith, nat_tests, was_heard_as log first heard origins t origin entry (omega arith) a b)
+    grind (arith, was_heard_as log first heard origins t origin entry (omega arith) a b)
 
 -- ---- segments
 
 picked_same : (pick : Message → Option Fragment) → ((pair : PairFields) → pick (Tags pair) ≡ None)
     → (is : Bool) (h : Option Message) → picked pick (settled is h) ≡ picked pick h
-picked_same pick none is h = grind (arith, nat_tests)
+picked_same pick none is h = grind (arith)
 
 module _ (pick : Message → Option Fragment) (none : (pair : PairFields) → pick (Tags pair) ≡ None)
     (log : List (Option Message)) (first : ℕ) where
@@ -159,11 +157,11 @@ module _ (pick : Message → Option Fragment) (none : (pair : PairFields) → pi
   segments_same [] origins = refl
   segments_same (h ∷ heard) [] = refl
   segments_same (h ∷ heard) (o ∷ origins) =
-      grind (arith, nat_tests, segments_same heard origins, settled, settle_long, picked_same)
+      grind (arith, segments_same heard origins, settled, settle_long, picked_same)
 
   run_same : (m : ℕ) (heard : List (Option Message)) (origins : List (Option ℕ))
       → run_at pick m first (settle log heard origins) ≡ run_at pick m first heard
-  run_same m heard origins = grind (arith, nat_tests, settle_long, segments_same)
+  run_same m heard origins = grind (arith, settle_long, segments_same)
 
 -- the run of texts is the same as settled
 pub texts_same : (log : List (Option Message)) (m first : ℕ) (heard : List (Option Message)) (origins : List (Option ℕ))
@@ -179,13 +177,13 @@ names_same log m first heard origins = run_same name_fragment (λ _. refl) log f
 
 known_if : (is : Bool) (h : Option Message) (before after : List (Option Message)) → is_known after ≡ is_known before
     → is_known (settled is h ∷ after) ≡ is_known (h ∷ before)
-known_if is h before after e = grind (arith, nat_tests)
+known_if is h before after e = grind (arith)
 
 known_same : (log heard : List (Option Message)) (origins : List (Option ℕ))
     → is_known (settle log heard origins) ≡ is_known heard
 known_same log [] origins = refl
 known_same log (h ∷ heard) [] = refl
-known_same log (h ∷ heard) (o ∷ origins) = grind (arith, nat_tests, known_same log heard origins, known_if)
+known_same log (h ∷ heard) (o ∷ origins) = grind (arith, known_same log heard origins, known_if)
 
 -- the tags that came later than this slot count
 abbrev pub TagsCount : List (Option Message) → ℕ → ℕ → List (Option Message) → List (Option ℕ) → Type 0
@@ -203,7 +201,7 @@ module _ (log : List (Option Message)) (first since : ℕ) where
       → (is ≡ false → nat_lt since (first + length before) ≡ true → ⊥)
       → pair_since first since (settled is (Some (Tags pair)) ∷ after) ≡ pair_since first since (Some (Tags pair)
       ∷ before)
-  pair_if is pair before after e f g count = grind (arith, nat_tests)
+  pair_if is pair before after e f g count = grind (arith)
 
   pair_same : (heard : List (Option Message)) (origins : List (Option ℕ)) → length origins ≡ length heard
       → TagsCount log first since heard origins
@@ -211,7 +209,7 @@ module _ (log : List (Option Message)) (first since : ℕ) where
   pair_same [] origins e count = refl
   pair_same (h ∷ heard) [] e count = refl
   pair_same (Some (Announce code bits aid) ∷ heard) (o ∷ origins) e count =
-      grind (arith, nat_tests, pair_same heard origins (omega arith))
+      grind (arith, pair_same heard origins (omega arith))
   pair_same (Some (Tags pair) ∷ heard) (o ∷ origins) e count =
       pair_if (counts log o) pair heard (settle log heard origins) (settle_long log heard origins)
       (known_same log heard origins)
@@ -225,7 +223,7 @@ module _ (log : List (Option Message)) (first since : ℕ) where
           late) (inl (refl, refl)) (inl (omega arith, refl)) in
           absurd (cc)
   pair_same (h ∷ heard) (o ∷ origins) e count =
-      grind (arith, nat_tests, pair_same heard origins (omega arith) (older_count h heard o origins count), older_count)
+      grind (arith, pair_same heard origins (omega arith) (older_count h heard o origins count), older_count)
 
 -- ---- the first segment of a run
 
@@ -236,15 +234,15 @@ CameIn slot (g ∷ older) = (slot ≡ g.slot) ⊎ CameIn slot older
 
 first_or : (g : Segment) (rest : List Segment) (since : ℕ) → begins_in (g ∷ rest) ≡ Some since
     → (since ≡ g.slot) ⊎ (begins_in rest ≡ Some since)
-first_or g rest since e = grind (arith, nat_tests)
+first_or g rest since e = grind (arith)
 
 came_before : (m : ℕ) (f : Bool) (s : ℕ) (gs : List Segment) (since : ℕ) → begins_in (run_before m f s gs) ≡ Some since
     → CameIn since gs
 came_before m f s [] since e = absurd (cc)
-came_before m f s (g ∷ older) since e = grind (arith, nat_tests, came_before m f g.slot older since, first_or)
+came_before m f s (g ∷ older) since e = grind (arith, came_before m f g.slot older since, first_or)
 
 came_in : (m t : ℕ) (gs : List Segment) (since : ℕ) → begins_in (run m t gs) ≡ Some since → CameIn since gs
-came_in m t gs since e = grind (arith, nat_tests, first_or, came_before)
+came_in m t gs since e = grind (arith, first_or, came_before)
 
 -- a text segment was heard in this slot
 pub record HeardText (first : ℕ) (heard : List (Option Message)) (slot : ℕ) : Type 0 where
@@ -263,12 +261,12 @@ text_came first [] slot h = absurd h
 text_came first (Some (Text f a b) ∷ heard) slot (inl h) = record
     { flag = f; address = a; bytes = b; came = inl (h, refl) }
 text_came first (Some (Text f a b) ∷ heard) slot (inr h) =
-    grind (arith, nat_tests, text_came first heard slot h, still_text)
+    grind (arith, text_came first heard slot h, still_text)
 text_came first (m ∷ heard) slot h = still_text first m heard slot (text_came first heard slot h)
 
 begins_with_text : (m first : ℕ) (heard : List (Option Message)) (since : ℕ)
     → begins_in (run_at text_fragment m first heard) ≡ Some since → HeardText first heard since
-begins_with_text m first heard since e = grind (arith, nat_tests, text_came, came_in)
+begins_with_text m first heard since e = grind (arith, text_came, came_in)
 
 -- if the tags count that came later than a text segment, the pair held is the same
 pub held_same : (log : List (Option Message)) (m first : ℕ) (heard : List (Option Message)) (origins : List (Option ℕ))

@@ -2,7 +2,7 @@
 use Rattle.std.proofs.Common.{◌≡◌, ◌⊎◌, List, [], ◌∷◌, inl, inr, sym, subst, ℕ, true, nat_eq, Option, Some, None, refl}
 use Rattle.std.proofs.Common.{◌∙◌, arith, ◌<◌, length, get_or, ◌+◌, ◌≤◌, suc, Bool, false, nat_lt}
 use Rattle.std.specs.List.{AllByRecursion}
-use Rattle.std.proofs.lemmas.Bool.Decides.{nat_tests, eqb_tells}
+use Rattle.std.proofs.lemmas.Bool.Decides.{eqb_tells}
 use Rattle.std.proofs.lemmas.List.{get_or-replicate, get_or-set_other, get_or-set_same, length-set}
 use Rattle.rds_receiver.specs.declared.fragment.Fragment.{Fragment}
 use Rattle.rds_audit.specs.Lengths.{sent_cells, sent_last, Gauge, changes, same_bytes}
@@ -35,7 +35,7 @@ same_number n = grind arith
 pub cell_from : (fragments : List Fragment) (a : ℕ) (s : List ℕ) → sent_last a fragments ≡ Some s
     → (p : Fragment) × IsIn p fragments × (p.address ≡ a) × (p.bytes ≡ s)
 cell_from [] a s e = absurd (cc)
-cell_from (q ∷ older) a s e = grind (arith, nat_tests, cell_from older a s)
+cell_from (q ∷ older) a s e = grind (arith, cell_from older a s)
 
 -- there is a cell for each address
 pub cells_long : (fragments : List Fragment) → length (sent_cells fragments) ≡ 16
@@ -47,7 +47,7 @@ pub cells_sent : (fragments : List Fragment) (a : ℕ) → a < 16
     → get_or (sent_cells fragments) a None ≡ sent_last a fragments
 cells_sent [] a less = get_or-replicate {A = Option (List ℕ)} 16 a None None less
 cells_sent (p ∷ older) a less =
-    grind (arith, nat_tests, cells_sent older a less, eqb_tells, get_or-set_same, cells_long, get_or-set_other)
+    grind (arith, cells_sent older a less, eqb_tells, get_or-set_same, cells_long, get_or-set_other)
 
 -- ---- the slots of spans
 
@@ -81,15 +81,15 @@ first_in_order from now start p after begun = record { after = after; begun = be
 -- a span that goes on to this slot
 more_in_order : (from now : ℕ) (r more : Reign) → more.start ≡ r.start → more.last ≡ now → IsInOrder from now r
     → IsInOrder from (suc now) more
-more_in_order from now r more start last h = grind (arith, nat_tests)
+more_in_order from now r more start last h = grind (arith)
 
 turned_in_order : (d now : ℕ) (p : Fragment) (is_changed : Bool) (r : Span) (older : List Span)
     → AreInOrder now (r ∷ older) → AreInOrder (suc now) (turned d now p is_changed r older)
-turned_in_order d now p is_changed r older h = grind (arith, nat_tests, first_in_order, all_later)
+turned_in_order d now p is_changed r older h = grind (arith, first_in_order, all_later)
 
 goes_on : (now : ℕ) (p : Fragment) (r : Span) (older : List Span) → AreInOrder now (r ∷ older)
     → AreInOrder (suc now) (span_with now p r ∷ older)
-goes_on now p r older h = grind (arith, nat_tests, more_in_order, all_later)
+goes_on now p r older h = grind (arith, more_in_order, all_later)
 
 joined_in_order : (g : Gauge) (d now : ℕ) (p : Fragment) (r : Span) (older : List Span)
     → AreInOrder now (r ∷ older) → AreInOrder (suc now) (joined g d now p r older)
@@ -112,13 +112,13 @@ after_in_order g d now p (r ∷ older) pos h =
 
 tagged_in_order : (now : ℕ) (pair : PairFields) (rs : List Span) → AreInOrder now rs
     → AreInOrder (suc now) (spans_tagged now pair rs)
-tagged_in_order now pair rs h = grind (arith, nat_tests, more_in_order, all_later)
+tagged_in_order now pair rs h = grind (arith, more_in_order, all_later)
 
 -- each span started after the one before it, and ended before now
 pub in_order : (g : Gauge) (d : ℕ) (sent : List Mark) → 0 < d → AreInOrder (length sent) (spans g d sent)
 in_order g d [] pos = tt
 in_order g d (x ∷ before) pos =
-    grind (arith, nat_tests, in_order g d before pos, all_later, after_in_order, tagged_in_order)
+    grind (arith, in_order g d before pos, all_later, after_in_order, tagged_in_order)
 
 -- ---- the same bytes
 
@@ -127,11 +127,11 @@ pub bytes_same : (b c : List ℕ) → b ≡ c → same_bytes b c ≡ true
 bytes_same [] [] e = refl
 bytes_same [] (c ∷ cs) e = absurd (cc)
 bytes_same (b ∷ bs) [] e = absurd (cc)
-bytes_same (b ∷ bs) (c ∷ cs) e = grind (arith, nat_tests, bytes_same bs cs, same_number)
+bytes_same (b ∷ bs) (c ∷ cs) e = grind (arith, bytes_same bs cs, same_number)
 
 -- bytes that pass the test are equal
 pub same_bytes_are : (b c : List ℕ) → same_bytes b c ≡ true → b ≡ c
 same_bytes_are [] [] e = refl
 same_bytes_are [] (c ∷ cs) e = absurd (cc)
 same_bytes_are (b ∷ bs) [] e = absurd (cc)
-same_bytes_are (b ∷ bs) (c ∷ cs) e = grind (arith, nat_tests, same_bytes_are bs cs)
+same_bytes_are (b ∷ bs) (c ∷ cs) e = grind (arith, same_bytes_are bs cs)

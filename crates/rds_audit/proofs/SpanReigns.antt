@@ -1,6 +1,5 @@
 -- Lemmas: up to the first fault of a service, its spans have its reigns and break no rule; marks that add nothing to
 -- its list pass.
-use Rattle.std.proofs.lemmas.Bool.Decides.{nat_tests}
 use Rattle.std.proofs.Common.{◌≡◌, ◌+◌, ◌<◌, ◌≤◌, not, ℕ, true, false, nat_lt, List, [], ◌∷◌, length, refl, sym, ap}
 use Rattle.std.proofs.Common.{◌∙◌, inl, inr, arith}
 use Rattle.std.specs.List.{AllByRecursion, list_any}
@@ -26,12 +25,12 @@ use Rattle.rds_audit.proofs.SpanSteps.{sets_are}
 reigns_before : (d : ℕ) (kind : Kind) (mark : Mark) (before : List Mark)
     → AllByRecursion (CanBeBroadcast d kind) (reigns d (mark ∷ before))
     → AllByRecursion (CanBeBroadcast d kind) (reigns d before)
-reigns_before d kind mark before all = grind (arith, nat_tests)
+reigns_before d kind mark before all = grind (arith)
 
 -- a service that passes passed before its newest mark
 pub service_passed_before : (d : ℕ) (kind : Kind) (mark : Mark) (before : List Mark) → Passes d kind (mark ∷ before)
     → Passes d kind before
-service_passed_before d kind mark before h = grind (arith, nat_tests, reigns_before, early, sent_before)
+service_passed_before d kind mark before h = grind (arith, reigns_before, early, sent_before)
 
 -- tags come after a fragment with a mark that is no tags, and with tags after a fragment
 tags_after : (x : Mark) (sent : List Mark) → ((pair : PairFields) → Tagged pair ≡ x → ⊥) → TagsAreAfter sent
@@ -47,14 +46,14 @@ tagged_after pair sent w h t other (inr s) = after_later (Tagged pair) sent t (h
 after_some : (d : ℕ) (sent : List Mark) (rs : List Reign) → AreKept d sent rs → (rs ≡ [] → ⊥)
     → IsAfterFragment sent (length sent)
 after_some d sent [] k some = absurd (some refl)
-after_some d sent (r ∷ older) k some = grind (arith, nat_tests, early)
+after_some d sent (r ∷ older) k some = grind (arith, early)
 
 -- what passes with tags has a reign for them
 tagged_some : (d : ℕ) (kind : Kind) (pair : PairFields) (before : List Mark) (rs : List Reign) → Keeps d before rs
     → Passes d kind (Tagged pair ∷ before) → rs ≡ [] → ⊥
 tagged_some d kind pair before [] k passes e =
     let w = passes.tagged (length before) pair (inl (refl, refl)) in
-    grind (arith, nat_tests)
+    grind (arith)
 tagged_some d kind pair before (r ∷ older) k passes e = (cc)
 
 -- ---- the rules that a span breaks
@@ -72,7 +71,7 @@ module _ (g : Gauge) (exact : IsExact g) (d : ℕ) where
   pub fits_one : (r : Span) → AllByRecursion (IsFormed g.segments) r.reign.fragments → fits g r ≡ true
       → is_past (lengths_of g r.reign.fragments) (tags_end r.reign.tags) ≡ false
       → HaveOneValue g.kind r.reign.fragments r.reign.tags
-  fits_one r formed fit ends = grind (arith, nat_tests)
+  fits_one r formed fit ends = grind (arith)
 
   -- a span that can be a broadcast breaks no rule
   breaks_none : (r : Span) → CanBeBroadcast d g.kind r.reign → r.is_changed ≡ false → r.is_early ≡ false
@@ -84,7 +83,7 @@ module _ (g : Gauge) (exact : IsExact g) (d : ℕ) where
   -- a span that breaks no rule has one value
   quiet_one : (r : Span) → AllByRecursion (IsFormed g.segments) r.reign.fragments
       → broken_by g d r ≡ none_broken → HaveOneValue g.kind r.reign.fragments r.reign.tags
-  quiet_one r formed none = grind (arith, nat_tests, fits_one, not-false)
+  quiet_one r formed none = grind (arith, fits_one, not-false)
 
 -- ---- spans and reigns after one more fragment
 
@@ -100,10 +99,10 @@ module _ (g : Gauge) (Q : List Span → List Reign → Type 0) (d slot : ℕ) (p
     (opens_early : (start late : ℕ) → slot < late
     → Q (first_of_span slot p start false true ∷ r ∷ older) (opened_from late slot p ∷ reigns_of (r ∷ older))) where
   by_change : Q (joined g d slot p r older) (with_fragment slot p r.reign ∷ reigns_of older)
-  by_change = grind (arith, nat_tests)
+  by_change = grind (arith)
 
   pub by_fragment : Q (spans_after g d slot p (r ∷ older)) (after_fragment d slot p (reigns_of (r ∷ older)))
-  by_fragment = grind (arith, nat_tests, same_or_other, is_same_flag, by_change, is_other_flag)
+  by_fragment = grind (arith, same_or_other, is_same_flag, by_change, is_other_flag)
 
 -- ---- up to the first fault
 
@@ -118,7 +117,7 @@ module _ (g : Gauge) (exact : IsExact g) (d : ℕ) where
       → HaveOneValue g.kind (p ∷ older) tags → changes g older p ≡ false
   never_changes p older tags one =
       let fit = (exact.measured (p ∷ older) tags one).fit in
-      grind (arith, nat_tests)
+      grind (arith)
 
   fragment_reigns : (p : Fragment) (before : List Mark) (rs : List Span)
       → AllByRecursion (CanBeBroadcast d g.kind) (reigns_of rs)
@@ -158,7 +157,7 @@ module _ (g : Gauge) (exact : IsExact g) (d : ℕ) where
   -- the spans of a service that passes have its reigns, and the newest breaks no rule
   pub are_reigns : (sent : List Mark) → Passes d g.kind sent → AreReigns g d sent (spans g d sent) (reigns d sent)
   are_reigns [] passes = record { same = refl; none = refl }
-  are_reigns (Nothing ∷ before) passes = grind (arith, nat_tests, are_reigns before)
+  are_reigns (Nothing ∷ before) passes = grind (arith, are_reigns before)
   are_reigns (Sends p ∷ before) passes =
       let passed = service_passed_before d g.kind (Sends p) before passes in
       let h = are_reigns before passed in
@@ -176,7 +175,7 @@ module _ (g : Gauge) (exact : IsExact g) (d : ℕ) where
   -- without a fault before, a slot adds what the newest span breaks
   pub adds_all : (mark : Mark) (before : List Mark) → broken_newest g d before (spans g d before) ≡ none_broken
       → added g d mark before ≡ broken_newest g d (mark ∷ before) (spans g d (mark ∷ before))
-  adds_all mark before none = grind (arith, nat_tests, sets_are)
+  adds_all mark before none = grind (arith, sets_are)
 
   -- a mark that breaks no rule adds nothing
   pub adds_none : (mark : Mark) (before : List Mark) → Passes d g.kind (mark ∷ before)
@@ -229,12 +228,12 @@ module _ (g : Gauge) (exact : IsExact g) (d : ℕ) where
       → broken_newest g d (Tagged pair ∷ before) (spans_tagged (length before) pair rs) ≡ none_broken
       → (reigns_of rs ≡ [] → ⊥) × AllByRecursion (CanBeBroadcast d g.kind) (after_tags (length before) pair
       (reigns_of rs))
-  can_be_tagged pair before rs was none = grind (arith, nat_tests)
+  can_be_tagged pair before rs was none = grind (arith)
 
   -- a mark that adds nothing to marks that pass: they pass with it too
   pub quiet_passes : (mark : Mark) (before : List Mark) → IsFormedMark g.segments mark → Passes d g.kind before
       → added g d mark before ≡ none_broken → Passes d g.kind (mark ∷ before)
-  quiet_passes Nothing before formed passes none = grind (arith, nat_tests, tags_after)
+  quiet_passes Nothing before formed passes none = grind (arith, tags_after)
   quiet_passes (Sends p) before formed passes none =
       let h = are_reigns before passes in
       record {

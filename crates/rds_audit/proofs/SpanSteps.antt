@@ -2,8 +2,7 @@
 use Rattle.std.proofs.lemmas.Bool.Decides.{nat_tests}
 use Rattle.std.proofs.Common.{◌≡◌, ℕ, zero, suc, Bool, true, false, List, [], ◌∷◌, Option, Some, None, length, refl, ap}
 use Rattle.std.proofs.Common.{inl, inr, arith, ◌<◌, get_or, set, sym, ◌+◌, ◌-◌, ◌≤◌, min, not, ◌&&◌, ◌↔◌, IsTrue, ◌∙◌}
-use Rattle.std.proofs.Common.{◌*◌, ◌^◌, ◌||◌, nat_lt, cond}
-use Rattle.std.specs.Prelude.{replicate}
+use Rattle.std.proofs.Common.{◌*◌, ◌^◌, ◌||◌, nat_lt, cond, replicate}
 use Rattle.rds_fields.specs.declared.message.Message.{Message}
 use Rattle.rds_fields.specs.declared.message.Message.TheVariants.{Text, Name, Announce, Tags, Other}
 use Rattle.rds_fields.specs.Tag.{PairFields}
@@ -45,11 +44,11 @@ silent_names (suc n) = ap (λ (sent : List Mark). Nothing ∷ sent) (silent_name
 
 -- what is judged before the first slot is silent
 pub texts_begin : (start : LogStart) (d : ℕ) → marks text_mark (judged_as start d []) ≡ silent_as start d
-texts_begin start d = grind (arith, nat_tests, silent_texts)
+texts_begin start d = grind (arith, silent_texts)
 
 -- before the first slot no name is judged
 pub names_begin : (start : LogStart) (d : ℕ) → marks name_mark (judged_as start d []) ≡ silent_as start d
-names_begin start d = grind (arith, nat_tests, silent_names)
+names_begin start d = grind (arith, silent_names)
 
 pub silent_reigns : (d lost : ℕ) → reigns d (replicate lost Nothing) ≡ []
 silent_reigns d zero = refl
@@ -67,7 +66,7 @@ no_tags (suc n) t pair (inr s) = no_tags n t pair s
 
 -- what is silent passes
 silence : (kind : Kind) (d lost : ℕ) → Passes d kind (replicate lost Nothing)
-silence kind d lost = grind (arith, nat_tests, silent_reigns, no_tags)
+silence kind d lost = grind (arith, silent_reigns, no_tags)
 
 -- silence passes
 pub silent_passes : (kind : Kind) (start : LogStart) (d : ℕ) → Passes d kind (silent_as start d)
@@ -79,7 +78,7 @@ silent_passes kind Running d = silence kind d d
 -- tags count after a text segment, and not before
 pub tags_count : (start : LogStart) (judged : List (Option Message)) (pair : PairFields) → has_text judged ≡ true
     → counted_as start judged (Some (Tags pair)) ≡ Some (Tags pair)
-tags_count start judged pair e = grind (arith, nat_tests)
+tags_count start judged pair e = grind (arith)
 
 tags_wait : (start : LogStart) (judged : List (Option Message)) (pair : PairFields) → start ≡ Running
     → has_text judged ≡ false → counted_as start judged (Some (Tags pair)) ≡ None
@@ -93,12 +92,12 @@ tags_complete start judged pair is = rw is refl
 -- all others count as they are
 pub text_counts : (start : LogStart) (judged : List (Option Message)) (f : Bool) (a : ℕ) (b : List ℕ)
     → counted_as start judged (Some (Text f a b)) ≡ Some (Text f a b)
-text_counts start judged f a b = grind (arith, nat_tests)
+text_counts start judged f a b = grind (arith)
 
 -- segments of names count in each log
 pub name_counts : (start : LogStart) (judged : List (Option Message)) (f : Bool) (a : ℕ) (b : List ℕ)
     → counted_as start judged (Some (Name f a b)) ≡ Some (Name f a b)
-name_counts start judged f a b = grind (arith, nat_tests)
+name_counts start judged f a b = grind (arith)
 
 -- these count for neither service
 abbrev pub IsSilent : Option Message → Type 0
@@ -106,7 +105,7 @@ IsSilent message = (text_mark message ≡ Nothing) × (name_mark message ≡ Not
 
 -- an empty slot counts as silent
 pub nothing_counts : (start : LogStart) (judged : List (Option Message)) → IsSilent (counted_as start judged None)
-nothing_counts start judged = grind (arith, nat_tests)
+nothing_counts start judged = grind (arith)
 
 -- in a recording tags before the first text count as silent
 pub tags_silent : (start : LogStart) (judged : List (Option Message)) (pair : PairFields) → start ≡ Running
@@ -116,12 +115,9 @@ tags_silent start judged pair is e = rw (tags_wait start judged pair is e) (refl
 -- an announcement counts as silent
 pub announcement_counts : (start : LogStart) (judged : List (Option Message)) (code bits aid : ℕ)
     → IsSilent (counted_as start judged (Some (Announce code bits aid)))
-announcement_counts start judged code bits aid = grind (arith, nat_tests)
+announcement_counts start judged code bits aid = grind (arith)
 
 -- another message counts as silent
-pub other_counts : (start : LogStart) (judged : List (Option Message)) → IsSilent (counted_as start judged (Some Other))
-other_counts start judged = grind (arith, nat_tests)
-
 -- ---- a segment that the reign has already changes nothing but the age of the reign
 
 -- an element replaced by itself
@@ -147,7 +143,7 @@ pub ages_renewed : (d now opened : ℕ) (fragments : List Fragment) (tags : List
       fragments = fragments;
       tags = tags;
     } ∷ older) record a { since_last = 0 }
-ages_renewed d now opened fragments tags r older a h = grind (arith, nat_tests)
+ages_renewed d now opened fragments tags r older a h = grind (arith)
 
 -- a fragment of this flag joins the newest reign
 pub joins_near : (d now : ℕ) (flag : Bool) (r : Reign) (older : List Reign) (a : Ages) → HoldsAges d now (r ∷ older) a
@@ -160,31 +156,31 @@ none_joins d now flag a h g = omega (arith, h.newest, g.1)
 
 opened_turns : (d now : ℕ) (q : Reign) (rs : List Reign) (a : Ages) → HoldsAges d now rs a
     → IsTrue (a.turns && not (a.is_open && is_same q.flag a.flag)) ↔ AlternateFlags (q ∷ rs)
-opened_turns d now q rs a h = grind (arith, nat_tests)
+opened_turns d now q rs a h = grind (arith)
 
 -- the ages once a reign was opened that started n slots ago
 pub ages_begun : (d now n : ℕ) (q : Reign) (rs : List Reign) (a : Ages) → q.last ≡ now → n ≡ min (now - q.start) d
     → HoldsAges d now rs a → HoldsAges d now (q ∷ rs) record (restarted n q.flag a) { since_last = 0 }
-ages_begun d now n q rs a last start h = grind (arith, nat_tests, opened_turns)
+ages_begun d now n q rs a last start h = grind (arith, opened_turns)
 
 -- one slot older
 pub ages_later : (d now : ℕ) (rs : List Reign) (a : Ages) → AreOver (now + 1) rs → HoldsAges d now rs a
     → HoldsAges d (now + 1) rs (aged d a)
-ages_later d now rs a over h = grind (arith, nat_tests)
+ages_later d now rs a over h = grind (arith)
 
 -- ---- the rules that a span breaks
 
 -- two sets with the same five faults are equal
 pub sets_are : (f g : FaultSet) → f.changed ≡ g.changed → f.early_flag ≡ g.early_flag → f.not_one_text ≡ g.not_one_text
     → f.early_tag ≡ g.early_tag → f.tag_outside ≡ g.tag_outside → f ≡ g
-sets_are f g a b c d e = grind (arith, nat_tests)
+sets_are f g a b c d e = grind (arith)
 
 not_one : (some each : Bool) → (not each || not some) ≡ not (some && each)
 not_one some each = grind arith
 
 -- an end past each length stays past those that a fragment leaves
 ends_past : (l less n : ℕ) → less ≤ l → (is_past l n || is_past less n) ≡ is_past less n
-ends_past l less n h = grind (arith, nat_tests, past_less l less n h)
+ends_past l less n h = grind (arith, past_less l less n h)
 
 -- the rules that a span breaks with one more fragment
 broken_with : (g : Gauge) (d now : ℕ) (p : Fragment) (r : Span)
@@ -218,7 +214,7 @@ broken_again g d now p r e =
 
 -- an end past each length is not within by a further end
 further_past : (l end more : ℕ) → end ≤ more → (is_past l end || is_past l more) ≡ is_past l more
-further_past l end more less = grind (arith, nat_tests, past_further)
+further_past l end more less = grind (arith, past_further)
 
 or_swap : (x y : Bool) → (x || y) ≡ (y || x)
 or_swap x y = grind arith
@@ -235,7 +231,7 @@ module _ (g : Gauge) (few : g.segments ≤ 16) (some : 0 < g.lengths) (d : ℕ) 
       → s.reigns.content ≡ content_of g r.reign.fragments r.reign.tags
       → s.count ≡ min (suc (length older)) (2 ^ 64 - 1) → s.broken ≡ broken_by g d r
       → FollowsFrom g d now (Sends p ∷ sent) (span_with now p r ∷ older) (put_in g p s)
-  put_follows p r older s formed ages content count broken = grind (arith, nat_tests, broken_with)
+  put_follows p r older s formed ages content count broken = grind (arith, broken_with)
 
   -- the content holds what was sent last at the address of a fragment
   held : (p : Fragment) (r : Span) → IsFormed g.segments p
@@ -246,7 +242,7 @@ module _ (g : Gauge) (few : g.segments ≤ 16) (some : 0 < g.lengths) (d : ℕ) 
   is_joined : (Q : List Span → Type 0) (p : Fragment) (r : Span) (older : List Span) (a : Ages)
       → HoldsAges d now (reigns_of (r ∷ older)) a → Joins d p.flag a
       → Q (joined g d now p r older) → Q (spans_after g d now p (r ∷ older))
-  is_joined Q p r older a h on q = grind (arith, nat_tests, joins_near, is_same_flag)
+  is_joined Q p r older a h on q = grind (arith, joins_near, is_same_flag)
 
   -- a fragment changes the newest span by the state if it does by the spans
   changed_by : (p : Fragment) (r : Span) (c : ContentState) → IsFormed g.segments p
@@ -273,7 +269,7 @@ module _ (g : Gauge) (few : g.segments ≤ 16) (some : 0 < g.lengths) (d : ℕ) 
   early_same : (r : Span) (older : List Span) (since_before : ℕ) → r.reign.last < now
       → since_before ≡ age_of_newest d now (reigns_of older)
       → nat_lt since_before d ≡ nat_lt now (due_after d r older)
-  early_same r older since_before over e = grind (arith, nat_tests)
+  early_same r older since_before over e = grind (arith)
 
   -- the start of a span that turned
   turned_start : (r : Span) (older : List Span) (since_last since_before : ℕ) → AreInOrder now (r ∷ older)
@@ -281,7 +277,7 @@ module _ (g : Gauge) (few : g.segments ≤ 16) (some : 0 < g.lengths) (d : ℕ) 
       → cond (nat_lt since_before d) (since_last - 1) (min (since_last - 1) (since_before - d))
       ≡ min (now - cond (nat_lt now (due_after d r older)) (r.reign.last + 1)
       (due_after d r older)) d
-  turned_start r older since_last since_before order last before = grind (arith, nat_tests)
+  turned_start r older since_last since_before order last before = grind (arith)
 
   -- a span is opened that started in slot `start`
   begins : (p : Fragment) (rs : List Span) (start : ℕ) (is_changed is_early : Bool) (s : SpansState)
@@ -291,7 +287,7 @@ module _ (g : Gauge) (few : g.segments ≤ 16) (some : 0 < g.lengths) (d : ℕ) 
       → FollowsFrom g d now (Sends p ∷ sent) (first_of_span now p start is_changed is_early ∷ rs)
       (put_in g p (opened_in d g.lengths is_changed p.flag s))
   begins p rs start is_changed is_early s formed ages began early count =
-      grind (arith, nat_tests, put_follows, ages_begun, empty_broken)
+      grind (arith, put_follows, ages_begun, empty_broken)
 
   -- the newest span of these is followed by one that counts as turned
   turns : (p : Fragment) (r : Span) (older : List Span) (is_changed : Bool) (s : SpansState) → IsFormed g.segments p
@@ -321,11 +317,11 @@ module _ (g : Gauge) (few : g.segments ≤ 16) (some : 0 < g.lengths) (d : ℕ) 
       → FollowsFrom g d now sent rs s → (Joins d p.flag s.reigns.ages → ⊥)
       → FollowsFrom g d now (Sends p ∷ sent) (spans_after g d now p rs)
       (put_in g p (opened_in d g.lengths false p.flag s)) × (length (spans_after g d now p rs) ≡ suc (length rs))
-  opened_follows p [] s formed order h apart = grind (arith, nat_tests, begins)
+  opened_follows p [] s formed order h apart = grind (arith, begins)
   opened_follows p (r ∷ older) s formed order h apart = elim (same_or_other r.reign.flag p.flag) [
     | inl e ↦
         let mine = is_same_flag p.flag s.reigns.ages.flag (sym (h.ages.current.1 ∙ e)) in
-        let away : r.reign.last + d ≤ now = grind (arith, nat_tests) in
+        let away : r.reign.last + d ≤ now = grind (arith) in
         rw (is_same_flag r.reign.flag p.flag e, le-ltb now (r.reign.last + d) away) (
           search (arith, begins),
           refl,
@@ -362,13 +358,13 @@ module _ (g : Gauge) (few : g.segments ≤ 16) (some : 0 < g.lengths) (d : ℕ) 
   pub tags_follow : (pair : PairFields) (rs : List Span) (s : SpansState) → FollowsFrom g d now sent rs s
       → FollowsFrom g d now (Tagged pair ∷ sent) (spans_tagged now pair rs) (tagged_in d pair s)
       × (length (spans_tagged now pair rs) ≡ length rs)
-  tags_follow pair [] s h = grind (arith, nat_tests)
-  tags_follow pair (r ∷ older) s h = grind (arith, nat_tests, ages_renewed, sets_are, or_swap, further_past)
+  tags_follow pair [] s h = grind (arith)
+  tags_follow pair (r ∷ older) s h = grind (arith, ages_renewed, sets_are, or_swap, further_past)
 
 -- so does the state after a slot without a mark
 pub nothing_follows : (g : Gauge) (d : ℕ) (sent : List Mark) (rs : List Span) (s : SpansState)
     → FollowsFrom g d (length sent) sent rs s → FollowsFrom g d (length sent) (Nothing ∷ sent) rs s
-nothing_follows g d sent rs s h = grind (arith, nat_tests)
+nothing_follows g d sent rs s h = grind (arith)
 
 -- the reigns of spans are over
 reigns_over : (slot : ℕ) (rs : List Span) → AreInOrder slot rs → AreOver slot (reigns_of rs)
@@ -396,20 +392,20 @@ pub added_more : (g : Gauge) (d : ℕ) (mark : Mark) (before : List Mark) (old n
     → length (spans g d (mark ∷ before)) ≡ length (spans g d before)
     → old ≡ broken_newest g d before (spans g d before)
     → new ≡ broken_newest g d (mark ∷ before) (spans g d (mark ∷ before)) → not_before old new ≡ added g d mark before
-added_more g d mark before old new same e f = grind (arith, nat_tests)
+added_more g d mark before old new same e f = grind (arith)
 
 -- a mark that opens a span adds all faults of it
 pub added_first : (g : Gauge) (d : ℕ) (mark : Mark) (before : List Mark) (new : FaultSet)
     → length (spans g d (mark ∷ before)) ≡ suc (length (spans g d before))
     → new ≡ broken_newest g d (mark ∷ before) (spans g d (mark ∷ before)) → new ≡ added g d mark before
-added_first g d mark before new more f = grind (arith, nat_tests)
+added_first g d mark before new more f = grind (arith)
 
 -- a mark that opens no span, or opens one
 pub takes_more : (g : Gauge) (d : ℕ) (mark : Mark) (sent : List Mark) (s after made : SpansState) (result : FaultSet)
     → after ≡ made → result ≡ not_before s.broken after.broken
     → HoldsNewestSpans g d mark sent made × (length (spans g d (mark ∷ sent)) ≡ length (spans g d sent))
     → HoldsSpans g d sent s → HoldsNewestSpans g d mark sent after × (result ≡ added g d mark sent)
-takes_more g d mark sent s after made result e r f h = grind (arith, nat_tests, added_more)
+takes_more g d mark sent s after made result e r f h = grind (arith, added_more)
 
 pub takes_first : (g : Gauge) (d : ℕ) (mark : Mark) (sent : List Mark) (after made : SpansState) (result : FaultSet)
     → after ≡ made → result ≡ after.broken
@@ -435,4 +431,4 @@ silent_tags (suc n) = silent_tags n
 pub silent_follows : (g : Gauge) (start : LogStart) (d : ℕ) (s : SpansState)
     → s.reigns ≡ record { ages = ages_at start d; content = no_content g.lengths } → s.count ≡ 0
     → s.broken ≡ none_broken → HoldsSpans g d (silent_as start d) s
-silent_follows g start d s e count broken = grind (arith, nat_tests, silent_spans, silent_length, turns, silent_tags)
+silent_follows g start d s e count broken = grind (arith, silent_spans, silent_length, turns, silent_tags)

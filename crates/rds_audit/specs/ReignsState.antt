@@ -1,6 +1,5 @@
 -- The state of the reigns of a service.
-use Rattle.std.specs.Prelude.{◌&&◌, ℕ, Bool, List, Option, Some, None, max, not}
-use Rattle.std.specs.Prelude.{replicate, slice_index_or, slice_set}
+use Rattle.std.specs.Prelude.{◌&&◌, ℕ, Bool, List, Option, Some, None, max, not, replicate, slice_index_or, slice_set}
 use Rattle.rds_fields.specs.Tag.{PairFields}
 use Rattle.rds_audit.specs.Ages.{Ages}
 use Rattle.rds_audit.specs.declared.audited.Measured.{Measured}

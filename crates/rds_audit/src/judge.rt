@@ -1,6 +1,5 @@
 //! How an audit takes a slot, and what it says of the log.
-ghost use Rattle.std.specs.Prelude.{◌≡◌, ◌+◌, ◌<◌, ◌↔◌, ◌⊎◌, ℕ, true};
-ghost use Rattle.std.specs.Prelude.{false, List, Option, None, Some, IsTrue};
+ghost use Rattle.std.specs.Prelude.{◌≡◌, ◌+◌, ◌<◌, ◌↔◌, ◌⊎◌, ℕ, true, false, List, Option, None, Some, IsTrue};
 ghost use Rattle.rds_block.specs.declared.group.Group.{Group};
 ghost use Rattle.rds_fields.specs.declared.message.Message.{Message};
 ghost use Rattle.rds_receiver.specs.Receipts.{heard_in, heard_of};

@@ -1,16 +1,15 @@
 -- Lemmas: the rules of the table, computed over all of it, and what each says of one entry.
 use Rattle.std.proofs.Common.{◌≡◌, ◌+◌, ◌-◌, ◌≤◌, ◌<◌, ◌==◌, ℕ, zero, suc, Bool, true, false, not, ◌&&◌, List, [], ◌∷◌}
 use Rattle.std.proofs.Common.{◌++◌, length, get_or, drop, map, refl, sym, ap, ◌∙◌, nat_le, nat_lt, arith, Option, Some}
-use Rattle.std.proofs.Common.{None, slice_get, if◌then◌else◌}
+use Rattle.std.proofs.Common.{None, slice_get, if◌then◌else◌, position, option_map}
 use Rattle.std.proofs.lemmas.Bool.Decides.{nat_tests}
 use Rattle.std.proofs.lemmas.List.{at_drop_more}
 use Rattle.std.proofs.lemmas.List.Folds.{list_all-append, list_all-map, list_all_at}
 use Rattle.std.proofs.lemmas.Bool.{and_parts}
 use Rattle.std.proofs.lemmas.List.Quantifiers.{position-Some}
 use Rattle.std.specs.Char.{len_utf8}
-use Rattle.std.specs.List.{list_all, enumerate_from, position}
+use Rattle.std.specs.List.{list_all, enumerate_from}
 use Rattle.std.proofs.lemmas.Option.{slice_get-get_or}
-use Rattle.std.specs.Option.{option_map}
 use Rattle.rds_charset.specs.declared.table.CodeRange.{CodeRange as HeldRange}
 use Rattle.rds_charset.specs.Ranges.{range_of}
 use Rattle.rds_charset.specs.Table.{CodeRange, FitsInBytes, table, character_in, character_at, character_of}
@@ -52,7 +51,7 @@ fits range = nat_le (range.0 + length range.1) 256
 
 FitsInBytes-from_fits : (range : CodeRange) (b : Bool) → fits range ≡ b → (b ≡ false → list_all fits table ≡ false)
     → FitsInBytes range
-FitsInBytes-from_fits range b is unfit = grind (arith, nat_tests)
+FitsInBytes-from_fits range b is unfit = grind (arith)
 
 -- each range of the table fits in bytes
 pub held-FitsInBytes : (ranges : List HeldRange) (i : ℕ) (d : HeldRange) → map range_of ranges ≡ table
@@ -72,7 +71,7 @@ holds_in_range : (test : ℕ → ℕ → Bool) (first : ℕ) (characters : List 
     → list_all (λ e. test e.0 e.1) (enumerate_from first characters) ≡ true
     → slice_get characters place ≡ Some character → test (first + place) character ≡ true
 holds_in_range test first [] place character all here = absurd (cc)
-holds_in_range test first (known ∷ characters) zero character all here = grind (arith, nat_tests)
+holds_in_range test first (known ∷ characters) zero character all here = grind (arith)
 holds_in_range test first (known ∷ characters) (suc place) character all here =
     let sum : first + suc place ≡ first + 1 + place = omega arith in
     rw sum (holds_in_range test (first + 1) characters place character (and_parts _ _ all).1 here)
@@ -80,17 +79,17 @@ holds_in_range test first (known ∷ characters) (suc place) character all here 
 holds_at_range : (test : ℕ → ℕ → Bool) (range : CodeRange) (ranges : List CodeRange) (place character : ℕ)
     → list_all (λ e. test e.0 e.1) (entries_in (range ∷ ranges)) ≡ true
     → slice_get range.1 place ≡ Some character → test (range.0 + place) character ≡ true
-holds_at_range test range ranges place character all here = grind (arith, nat_tests, holds_in_range, list_all-append)
+holds_at_range test range ranges place character all here = grind (arith, holds_in_range, list_all-append)
 
 holds_at_rest : (test : ℕ → ℕ → Bool) (range : CodeRange) (ranges : List CodeRange)
     → list_all (λ e. test e.0 e.1) (entries_in (range ∷ ranges)) ≡ true
     → list_all (λ e. test e.0 e.1) (entries_in ranges) ≡ true
-holds_at_rest test range ranges all = grind (arith, nat_tests, list_all-append)
+holds_at_rest test range ranges all = grind (arith, list_all-append)
 
 found_at : (test : ℕ → ℕ → Bool) (range : CodeRange) (ranges : List CodeRange) (byte character : ℕ)
     → list_all (λ e. test e.0 e.1) (entries_in (range ∷ ranges)) ≡ true → (b : Bool) → nat_le range.0 byte ≡ b
     → (if b then slice_get range.1 (byte - range.0) else None) ≡ Some character → test byte character ≡ true
-found_at test range ranges byte character all b is here = grind (arith, nat_tests, holds_at_range)
+found_at test range ranges byte character all b is here = grind (arith, holds_at_range)
 
 -- a test that all entries pass is passed at each byte
 pub holds_at_byte : (test : ℕ → ℕ → Bool) (ranges : List CodeRange) (byte character : ℕ)
@@ -99,7 +98,7 @@ pub holds_at_byte : (test : ℕ → ℕ → Bool) (ranges : List CodeRange) (byt
 holds_at_byte test [] byte character all here = absurd (cc)
 holds_at_byte test (range ∷ ranges) byte character all here =
     let rest = holds_at_rest test range ranges all in
-    grind (arith, nat_tests, holds_at_byte test ranges byte character rest, found_at)
+    grind (arith, holds_at_byte test ranges byte character rest, found_at)
 
 placed_at : (test : ℕ → ℕ → Bool) (range : CodeRange) (ranges : List CodeRange) (character byte : ℕ)
     → list_all (λ e. test e.0 e.1) (entries_in (range ∷ ranges)) ≡ true → byte_at range character ≡ Some byte
@@ -119,14 +118,14 @@ holds_at_character : (test : ℕ → ℕ → Bool) (ranges : List CodeRange) (ch
 holds_at_character test [] character byte all here = absurd (cc)
 holds_at_character test (range ∷ ranges) character byte all here =
     let rest = holds_at_rest test range ranges all in
-    grind (arith, nat_tests, holds_at_character test ranges character byte rest, placed_at)
+    grind (arith, holds_at_character test ranges character byte rest, placed_at)
 
 abbrev is_number : Option ℕ → ℕ → Bool
 is_number None n = false
 is_number (Some m) n = m == n
 
 is_number-Some : (found : Option ℕ) (n : ℕ) → is_number found n ≡ true → found ≡ Some n
-is_number-Some found n is = grind (arith, nat_tests)
+is_number-Some found n is = grind (arith)
 
 -- the rules: the byte of an entry is below 256; its character is not a backslash, has at most three bytes and is not
 -- half of a pair; and neither is in another entry

@@ -1,16 +1,22 @@
 -- Lemmas: a text has one list of symbols only, so it is read as at most one list of bytes, and stops at one place at
 -- most.
 use Rattle.std.proofs.Common.{◌≡◌, inl, inr, ◌+◌, ◌-◌, ◌*◌, ◌≤◌, ◌<◌, ℕ, List, [], ◌∷◌, ◌++◌, length, drop, refl, sym}
-use Rattle.std.proofs.Common.{ap, ◌∙◌, arith, Some, None, encode_utf8, append_assoc, length-append, length-drop}
-use Rattle.std.proofs.lemmas.Bool.Decides.{nat_tests}
-use Rattle.std.proofs.lemmas.List.{drop_at}
+use Rattle.std.proofs.Common.{ap, ◌∙◌, arith, Some, None, encode_utf8, append_assoc, length-append, length-drop, IsUtf8}
+use Rattle.std.proofs.Common.{◌↔◌, slice_index, take, Ok, Err, Result, chars}
+use Rattle.std.proofs.lemmas.List.{drop_at, length-take, take-append-drop}
 use Rattle.std.proofs.lemmas.Str.{encode_same, encode_ascii, length-encode, len_utf8_bounds, IsUtf8-past_char}
+use Rattle.std.proofs.lemmas.Str.{IsCharBoundary-from_drop, IsUtf8-take, chars-append, chars_past_char, encodes-chars}
+use Rattle.std.proofs.lemmas.Str.{length-le-encodes}
 use Rattle.std.specs.Char.{digit_value}
-use Rattle.std.specs.Str.{IsUtf8}
 use Rattle.rds_charset.proofs.Characters.{IsLawful-from_byte, IsLawful-from_character}
 use Rattle.rds_charset.specs.ReadAs.{IsCharacter, IsEscape, IsSymbol, Begins, IsReadUpTo, IsReadAs, BeginsNoSymbol}
-use Rattle.rds_charset.specs.ReadAs.{StopsAt}
+use Rattle.rds_charset.specs.ReadAs.{StopsAt, HasBadEscape, HasNoRoom, HasUnknownCharacter}
 use Rattle.rds_charset.specs.Table.{character_of, byte_of}
+use Rattle.rds_charset.specs.declared.reading.TextFault.{TextFault}
+use Rattle.rds_charset.specs.declared.reading.TextFault.TheVariants.{BadEscape, NoSuchCharacter, NoRoom}
+use Rattle.rds_charset.specs.Faults.{TextStopsBy}
+
+-- ---- a text has one list of symbols only, so it is read as at most one list of bytes, and stops at one place at most
 
 -- the backslash and the x as characters
 backslash-first : (bs : List ℕ) → 0x5C ∷ bs ≡ encode_utf8 0x5C ++ bs
@@ -42,11 +48,11 @@ characters_same p q a b r s one two same =
 -- two escapes
 escapes_same : (p q : List ℕ) (a b : ℕ) (r s : List ℕ) → IsEscape p a → IsEscape q b → p ++ r ≡ q ++ s
     → SameStart a b r s
-escapes_same p q a b r s one two same = grind (arith, nat_tests)
+escapes_same p q a b r s one two same = grind (arith)
 
 -- one of each
 character_and_escape : (p q : List ℕ) (a b : ℕ) (r s : List ℕ) → IsCharacter p a → IsEscape q b → p ++ r ≡ q ++ s → ⊥
-character_and_escape p q a b r s one two same = grind (arith, nat_tests, character_no_escape)
+character_and_escape p q a b r s one two same = grind (arith, character_no_escape)
 
 symbols_same : (p q : List ℕ) (a b : ℕ) (r s : List ℕ) → IsSymbol p a → IsSymbol q b → p ++ r ≡ q ++ s
     → SameStart a b r s
@@ -62,7 +68,7 @@ Begins-same text a b r s one two = symbols_same one.symbol two.symbol a b r s on
 
 -- a symbol has a byte at least
 IsSymbol-length : (p : List ℕ) (a : ℕ) → IsSymbol p a → 0 < length p
-IsSymbol-length p a is = grind (arith, nat_tests, length-encode, len_utf8_bounds)
+IsSymbol-length p a is = grind (arith, length-encode, len_utf8_bounds)
 
 -- a text is shorter behind its first symbol
 pub Begins-length : (text : List ℕ) (a : ℕ) (r : List ℕ) → Begins text a r → length r < length text
@@ -100,12 +106,12 @@ pub IsReadUpTo-append : (text bs mid cs rest : List ℕ) → IsReadUpTo text bs 
     → IsReadUpTo text (bs ++ cs) rest
 IsReadUpTo-append text [] mid cs rest one two = (rw one two)
 IsReadUpTo-append text (b ∷ bs) mid cs rest (after, begins, one) two =
-    grind (arith, nat_tests, IsReadUpTo-append after bs mid cs rest one two)
+    grind (arith, IsReadUpTo-append after bs mid cs rest one two)
 
 -- and one symbol of the rest
 pub IsReadUpTo-push : (text bs mid : List ℕ) (byte : ℕ) (rest : List ℕ) → IsReadUpTo text bs mid → Begins mid byte rest
     → IsReadUpTo text (bs ++ byte ∷ []) rest
-IsReadUpTo-push text bs mid byte rest one begins = grind (arith, nat_tests, IsReadUpTo-append)
+IsReadUpTo-push text bs mid byte rest one begins = grind (arith, IsReadUpTo-append)
 
 -- the rest is the end of the text
 pub IsReadUpTo-length : (text bs rest : List ℕ) → IsReadUpTo text bs rest → length bs + length rest ≤ length text
@@ -149,7 +155,7 @@ StopsAt-unread text p bs one two =
 
 -- what the code knows of the first character of a text, and the symbols that can begin there
 digit_ascii : (digit : ℕ) → digit_value digit < 16 → digit < 128
-digit_ascii digit small = grind (arith, nat_tests)
+digit_ascii digit small = grind (arith)
 
 digit-first : (digit : ℕ) (rest : List ℕ) → digit_value digit < 16 → digit ∷ rest ≡ encode_utf8 digit ++ rest
 digit-first digit rest small = sym (ap (λ cs. cs ++ rest) (encode_ascii digit (digit_ascii digit small)))
@@ -239,3 +245,93 @@ IsReadAs-step text byte rest (b ∷ bytes) (after, also, one) begins =
 pub IsReadAs-end : (text bytes : List ℕ) → IsReadAs text bytes → BeginsNoSymbol text → text ≡ []
 IsReadAs-end text [] one stuck = one
 IsReadAs-end text (b ∷ bytes) (after, begins, one) stuck = absurd (stuck b after begins)
+
+-- ---- reading a text ends in one way only, with its bytes or with its one fault
+
+-- what a result means for the text
+abbrev pub Outcome : List ℕ → ℕ → Result ℕ TextFault → Type 0
+Outcome text room (Ok count) = (bytes : List ℕ) × IsReadAs text bytes × (length bytes ≤ room) × (length bytes ≡ count)
+Outcome text room (Err (BadEscape place)) = HasBadEscape text place
+Outcome text room (Err (NoSuchCharacter place)) = HasUnknownCharacter text place
+Outcome text room (Err NoRoom) = HasNoRoom text room
+
+-- reading ends with a bad escape exactly if the text has one
+pub Outcome-bad_escape : (text : List ℕ) (room : ℕ) (r : Result ℕ TextFault) → Outcome text room r → (place : ℕ)
+    → (r ≡ Err (BadEscape place)) ↔ HasBadEscape text place
+Outcome-bad_escape text room (Ok count) o place = (λ e. cc, λ h. absurd (StopsAt-unread text place o.0 h.0 o.1))
+Outcome-bad_escape text room (Err (BadEscape at)) o place = (
+  λ e. (let same : at ≡ place = cc in rw same at o),
+  λ h. ap (λ p. Err (BadEscape p)) (StopsAt-same text at place o.0 h.0),
+)
+Outcome-bad_escape text room (Err (NoSuchCharacter at)) o place =
+    (λ e. cc, λ h. absurd (o.1 (ap (slice_index text) (StopsAt-same text at place o.0 h.0) ∙ h.1)))
+Outcome-bad_escape text room (Err NoRoom) o place = (λ e. cc, λ h. absurd (StopsAt-unread text place o.0 h.0 o.1))
+
+-- reading ends with an unknown character exactly if the text has one
+pub Outcome-no_such_character : (text : List ℕ) (room : ℕ) (r : Result ℕ TextFault) → Outcome text room r → (place : ℕ)
+    → (r ≡ Err (NoSuchCharacter place)) ↔ HasUnknownCharacter text place
+Outcome-no_such_character text room (Ok count) o place = (λ e. cc, λ h. absurd (StopsAt-unread text place o.0 h.0 o.1))
+Outcome-no_such_character text room (Err (BadEscape at)) o place =
+    (λ e. cc, λ h. absurd (h.1 (ap (slice_index text) (sym (StopsAt-same text at place o.0 h.0)) ∙ o.1)))
+Outcome-no_such_character text room (Err (NoSuchCharacter at)) o place = (
+  λ e. (let same : at ≡ place = cc in rw same at o),
+  λ h. ap (λ p. Err (NoSuchCharacter p)) (StopsAt-same text at place o.0 h.0),
+)
+Outcome-no_such_character text room (Err NoRoom) o place =
+    (λ e. cc, λ h. absurd (StopsAt-unread text place o.0 h.0 o.1))
+
+-- reading ends without room exactly if there is none
+pub Outcome-no_room : (text : List ℕ) (room : ℕ) (r : Result ℕ TextFault) → Outcome text room r
+    → (r ≡ Err NoRoom) ↔ HasNoRoom text room
+Outcome-no_room text room (Ok count) o =
+    (λ e. cc, λ h. absurd (omega (arith, o.2, h.2, ap length (IsReadAs-same text o.0 h.0 o.1 h.1))))
+Outcome-no_room text room (Err (BadEscape at)) o = (λ e. cc, λ h. absurd (StopsAt-unread text at h.0 o.0 h.1))
+Outcome-no_room text room (Err (NoSuchCharacter at)) o = (λ e. cc, λ h. absurd (StopsAt-unread text at h.0 o.0 h.1))
+Outcome-no_room text room (Err NoRoom) o = (λ e. o, λ h. refl)
+
+-- a text that fits is read
+pub Outcome-read : (text : List ℕ) (room : ℕ) (r : Result ℕ TextFault) → Outcome text room r → (bytes : List ℕ)
+    → IsReadAs text bytes → length bytes ≤ room → r ≡ Ok (length bytes)
+Outcome-read text room (Ok count) o bytes is fits = ap Ok (sym o.3 ∙ ap length (IsReadAs-same text o.0 bytes o.1 is))
+Outcome-read text room (Err (BadEscape at)) o bytes is fits = absurd (StopsAt-unread text at bytes o.0 is)
+Outcome-read text room (Err (NoSuchCharacter at)) o bytes is fits = absurd (StopsAt-unread text at bytes o.0 is)
+Outcome-read text room (Err NoRoom) o bytes is fits =
+    absurd (omega (arith, o.2, ap length (IsReadAs-same text o.0 bytes o.1 is)))
+
+-- the three ways in which the code comes to a result
+pub Outcome-stopped : (text : List ℕ) (room : ℕ) (r : Result ℕ TextFault) (fault : TextFault) → r ≡ Err fault
+    → TextStopsBy text fault → Outcome text room r
+Outcome-stopped text room r fault is stops = grind (arith)
+
+-- a text that is longer than the room is not read
+pub Outcome-short : (text bytes : List ℕ) (room count : ℕ) → IsReadAs text bytes → length bytes ≡ count → room < count
+    → Outcome text room (Err NoRoom)
+Outcome-short text bytes room count is long short = (bytes, is, omega arith)
+
+-- a text that was read fills the bytes
+pub Outcome-filled : (text into : List ℕ) (room count : ℕ) → IsReadAs text (take count into) → count ≤ length into
+    → length into ≡ room → Outcome text room (Ok count)
+Outcome-filled text into room count is within same = grind (arith, length-take)
+
+-- ---- how many characters come before the place at which reading a text stops
+
+-- the characters before a place and those from there on are all of them
+pub before_and_after : (text bs rest : List ℕ) → IsUtf8 text → IsUtf8 rest → IsReadUpTo text bs rest
+    → length (chars text) ≡ length (chars (take (length text - length rest) text)) + length (chars rest)
+before_and_after text bs rest whole left read =
+    let n = length text - length rest in
+    let there : drop n text ≡ rest = IsReadUpTo-drop text bs rest read in
+    let boundary = IsCharBoundary-from_drop text n (omega arith) (rw there left) in
+    let parts = chars-append (take n text) (drop n text) (IsUtf8-take text n whole boundary) in
+    let all : chars text ≡ chars (take n text) ++ chars rest = rw (take-append-drop n text, there) at parts in
+    ap length all ∙ length-append (chars (take n text)) (chars rest)
+
+-- a text that begins with a character has at least one
+pub some_character : (rest after : List ℕ) (c : ℕ) → IsUtf8 rest → rest ≡ encode_utf8 c ++ after
+    → 0 < length (chars rest)
+some_character rest after c utf8 begins = (let e = ap length (chars_past_char rest after c utf8 begins)
+    in omega (arith, e))
+
+-- and at least one byte
+pub some_bytes : (rest : List ℕ) → IsUtf8 rest → 0 < length (chars rest) → 0 < length rest
+some_bytes rest utf8 some = grind (arith, length-le-encodes, encodes-chars)

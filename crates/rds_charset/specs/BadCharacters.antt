@@ -1,6 +1,5 @@
 -- The first character of a text that cannot be read, with its place, counted in characters from 1.
-use Rattle.std.specs.Prelude.{◌≡◌, ◌+◌, ◌++◌, ℕ, List, drop, encode_utf8, length, take}
-use Rattle.std.specs.Str.{chars}
+use Rattle.std.specs.Prelude.{◌≡◌, ◌+◌, ◌++◌, ℕ, List, drop, encode_utf8, length, take, chars}
 use Rattle.rds_charset.specs.ReadAs.{StopsAt}
 use Rattle.rds_charset.specs.declared.reading.BadCharacter.{BadCharacter}
 

@@ -1,6 +1,5 @@
 -- The laws of the printed form, as the contracts in `laws` state them.
-use Rattle.std.specs.Prelude.{◌≡◌, ◌<◌, ◌≤◌, ◌*◌, ℕ, List, All, length}
-use Rattle.std.specs.Str.{IsUtf8}
+use Rattle.std.specs.Prelude.{◌≡◌, ◌<◌, ◌≤◌, ◌*◌, ℕ, List, All, length, IsUtf8}
 use Rattle.rds_charset.specs.Printed.{printed}
 use Rattle.rds_charset.specs.ReadAs.{IsReadAs}
 

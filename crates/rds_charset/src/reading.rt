@@ -1,14 +1,12 @@
 //! The bytes of a text in its printed form.
 
-ghost use Rattle.std.specs.Prelude.{◌≡◌, ◌≤◌, ◌<◌, ◌+◌, ◌*◌, ◌++◌, ◌∷◌, ◌↔◌, [], ℕ, List};
-ghost use Rattle.std.specs.Prelude.{length, take, drop, encode_utf8};
-ghost use Rattle.std.specs.Prelude.{IfOk, IfErr, OnErr, IfSome, IfNone};
+ghost use Rattle.std.specs.Prelude.{◌≡◌, ◌≤◌, ◌<◌, ◌+◌, ◌*◌, ◌++◌, ◌∷◌, ◌↔◌, [], ℕ, List, length, take, drop};
+ghost use Rattle.std.specs.Prelude.{encode_utf8, IfOk, IfErr, OnErr, IfSome, IfNone, chars};
 ghost use Rattle.rds_charset.specs.Faults.{TextStopsBy};
 ghost use Rattle.rds_charset.specs.ReadAs.{Begins, BeginsDigit, BeginsNoDigit, BeginsNoSymbol};
 ghost use Rattle.rds_charset.specs.ReadAs.{HasBadEscape, HasNoRoom, HasUnknownCharacter};
 ghost use Rattle.rds_charset.specs.ReadAs.{IsReadAs, IsReadUpTo, StopsAt};
 ghost use Rattle.rds_charset.specs.BadCharacters.{IsBadCharacter};
-ghost use Rattle.std.specs.Str.{chars};
 
 use crate::table::byte_of;
 use thiserror::Error;

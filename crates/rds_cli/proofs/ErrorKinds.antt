@@ -10,8 +10,8 @@ use Rattle.rds_cli.specs.CommandLine.{AreAnswered, whole_app}
 among : (test : ErrorKind → Bool) (k : ErrorKind) (kinds : Kinds) → IsAmong k kinds → list_all test kinds ≡ true
     → test k ≡ true
 among test k [] none all = absurd none
-among test k (x ∷ xs) (inl same) all = grind (arith, nat_tests)
-among test k (x ∷ xs) (inr later) all = grind (arith, nat_tests, among test k xs later)
+among test k (x ∷ xs) (inl same) all = grind (arith)
+among test k (x ∷ xs) (inr later) all = grind (arith, among test k xs later)
 
 -- one of the kinds passes the test
 pub answered_by : (test : ErrorKind → Bool) (words : List Text) (k : ErrorKind) → AreAnswered test words

@@ -1,8 +1,6 @@
 -- Numbers that the words give.
-use Rattle.std.proofs.lemmas.Bool.Decides.{nat_tests}
-use Rattle.std.proofs.Common.{◌≡◌, ◌<◌, ◌-◌, ◌^◌, ◌&&◌, ℕ, Bool, true, false, List, [], ◌∷◌, Option, Some, None}
-use Rattle.std.proofs.Common.{Result, refl, sym, ◌∙◌, ap, arith, nat_lt}
-use Rattle.std.specs.Prelude.{if◌then◌else◌, length, nat_le, option_and_then}
+use Rattle.std.proofs.Common.{◌≡◌, ◌<◌, ◌-◌, ◌^◌, ◌&&◌, ℕ, Bool, true, false, List, [], ◌∷◌, Option, Some, None, Result}
+use Rattle.std.proofs.Common.{refl, sym, ◌∙◌, ap, arith, nat_lt, if◌then◌else◌, length, nat_le, option_and_then}
 use Rattle.std.specs.Char.{digit_value}
 use Rattle.std.specs.List.{list_all}
 use Rattle.std.specs.Str.Parse.{AllDigits, IsNumeral, ParsesUnsigned, digits_value, without_leading_plus}
@@ -24,16 +22,16 @@ all_digits (d ∷ ds) h = rw (lt-ltb (digit_value d) 10 h.0) (all_digits ds h.1)
 
 digits_all : (ds : List ℕ) → list_all (λ d. nat_lt (digit_value d) 10) ds ≡ true → AllDigits 10 ds
 digits_all [] e = tt
-digits_all (d ∷ ds) e = grind (arith, nat_tests, digits_all ds)
+digits_all (d ∷ ds) e = grind (arith, digits_all ds)
 
 numeral : (ds : List ℕ) → IsNumeral 10 ds → is_numeral ds ≡ true
 numeral ds h = rw (lt-ltb 0 (length ds) h.0) (all_digits ds h.1)
 
 is_one : (ds : List ℕ) → is_numeral ds ≡ true → IsNumeral 10 ds
-is_one ds e = grind (arith, nat_tests, digits_all)
+is_one ds e = grind (arith, digits_all)
 
 above : (least most n : ℕ) → most < n → between least most n ≡ None
-above least most n h = grind (arith, nat_tests)
+above least most n h = grind (arith)
 
 read_number : (k least most : ℕ) {E : Type 0} (G : Text → Result ℕ E → Type 0) (o : Option Text) (r : Option ℕ)
     → (o ≡ None → r ≡ None)

@@ -114,10 +114,6 @@ fn vectors(rt: HostRuntime) -> Result<(), Fail> {
         (name(false, 1, *b" FM ")?, [0xC201, 0xA141, 0x2046, 0x4D20]),
         (rtplus_announcement(), [0xC201, 0x3156, 0x0000, 0x4BD7]),
         (
-            tags((true, true), (4, 0, 3), (1, 7, 7))?,
-            [0xC201, 0xB158, 0x8006, 0x08E7],
-        ),
-        (
             tags((false, true), (1, 0, 63), dummy)?,
             [0xC201, 0xB148, 0x207E, 0x0000],
         ),

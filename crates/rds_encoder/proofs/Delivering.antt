@@ -1,23 +1,104 @@
 -- Lemmas: a text on air is sent whole in twice as many free slots as it has segments, and a name in eight.
+use Rattle.std.proofs.Common.{◌≡◌, ℕ, ◌+◌, ◌%◌, ◌<◌, ◌≤◌, List, [], ◌∷◌, Bool, true, Option, Some, refl, arith, length}
+use Rattle.std.proofs.Common.{length-append, is_ok, ◌*◌, ◌/◌, ◌++◌, ap, ◌∙◌, inl, inr, ◌==◌}
+use Rattle.std.proofs.lemmas.List.{length-replicate}
+use Rattle.std.proofs.Math.Nat.{mod-lt, add-mod_right}
+use Rattle.rds_fields.specs.declared.message.Message.{Message}
+use Rattle.rds_fields.specs.declared.message.Message.TheVariants.{Text, Name, Tags}
+use Rattle.rds_fields.specs.Tag.{BothEndIn, PairFields}
+use Rattle.rds_assembly.specs.Body.{name_body, segment_count, text_body, segment_of}
+use Rattle.rds_encoder.specs.Entries.{Entry, SetTags, Move, name_moves, slot_of, text_moves, Tick, restart_before}
+use Rattle.rds_encoder.specs.Laws.{IsSegmentOf}
+use Rattle.rds_encoder.specs.Plan.{OnAir, on_air}
+use Rattle.rds_encoder.specs.Reply.{Reply, unless_silent}
+use Rattle.rds_encoder.specs.Round.{IsTurn, turn_in}
+use Rattle.rds_encoder.specs.Sent.{name_segment, sent_at_turn, sent_in, text_segment, turn_of, count_from, is_text_turn}
+use Rattle.rds_encoder.specs.Sent.{is_turn, one_if}
+use Rattle.rds_encoder.specs.Tags.{fitting_reply, pair_on_air}
 use Rattle.std.proofs.lemmas.Bool.Decides.{nat_tests}
-use Rattle.std.proofs.Common.{◌≡◌, ℕ, ◌+◌, ◌*◌, ◌/◌, ◌%◌, ◌<◌, ◌≤◌, List, [], ◌∷◌, ◌++◌, Bool, true, Some, refl, ap}
-use Rattle.std.proofs.Common.{◌∙◌, inl, inr, arith}
-use Rattle.std.specs.Prelude.{◌==◌}
 use Rattle.std.proofs.lemmas.Bool.{cases_lt, le-leb}
 use Rattle.std.proofs.lemmas.Nat.{div-add-mod', mod-mul-add}
-use Rattle.std.proofs.Math.Nat.{add-mod_right, mod-lt}
-use Rattle.rds_fields.specs.declared.message.Message.TheVariants.{Text, Name}
-use Rattle.rds_assembly.specs.Body.{name_body, segment_count, segment_of, text_body}
 use Rattle.rds_encoder.specs.declared.round.Turn.{Turn}
 use Rattle.rds_encoder.specs.declared.round.Turn.TheVariants as turn
 use Rattle.rds_encoder.specs.Delivery.{IsOnThroughout, IsSentAmong, free_in}
-use Rattle.rds_encoder.specs.Entries.{Entry, Tick, Move, name_moves, restart_before, slot_of, text_moves}
-use Rattle.rds_encoder.specs.Plan.{OnAir, on_air}
-use Rattle.rds_encoder.specs.Round.{turn_in}
-use Rattle.rds_encoder.specs.Sent.{count_from, is_text_turn, is_turn, one_if, sent_at_turn, sent_in, text_segment}
-use Rattle.rds_encoder.specs.Sent.{turn_of}
 use Rattle.rds_encoder.proofs.OnAir.{air_since}
 use Rattle.rds_encoder.proofs.Turns.{same_restart, same_slot, even_is_text}
+
+-- ---- all that is sent is of the text or name on air
+
+-- the message of a slot with a turn
+at_turn : (m : ℕ) (free : Bool) (before : List Entry) (message : Message) → sent_in m free before ≡ Some message
+    → sent_at_turn m (turn_in (turn_of m (text_moves before) % 8)) before ≡ Some message
+at_turn m free before message = grind (arith)
+
+-- a text has at least one segment
+some_segment : (x : List ℕ) → 0 < segment_count (text_body x)
+some_segment x = grind (arith, length-append {A = ℕ}, length-replicate {A = ℕ})
+
+two_segments : (x : List ℕ) → 2 ≤ segment_count (name_body x)
+two_segments x = omega (arith, length-append {A = ℕ}, length-replicate {A = ℕ})
+
+-- each turn of the round is valid
+is_turn_in : (place : ℕ) → IsTurn (turn_in place)
+is_turn_in place = grind (arith)
+
+-- a segment of a text
+text_of_air : (m : ℕ) (moves : List Move) (f : Bool) (a : ℕ) (x : List ℕ) (o : Option OnAir) → on_air m moves ≡ o
+    → text_segment m moves o ≡ Some (Text f a x)
+    → (air : OnAir) × (on_air m moves ≡ Some air) × IsSegmentOf text_body f a x air
+text_of_air m moves f a x o on e = grind (arith, mod-lt, some_segment)
+
+-- a segment of a text that is sent is of the text on air
+pub text_sent : (m : ℕ) (free : Bool) (before : List Entry) (f : Bool) (a : ℕ) (x : List ℕ)
+    → sent_in m free before ≡ Some (Text f a x)
+    → (air : OnAir) × (on_air m (text_moves before) ≡ Some air) × IsSegmentOf text_body f a x air
+text_sent m free before f a x e = grind (arith, at_turn, text_of_air)
+
+-- a segment of a name
+name_of_air : (moves : List Move) (m n : ℕ) (f : Bool) (a : ℕ) (x : List ℕ) (o : Option OnAir) → n < 2
+    → on_air m moves ≡ o → name_segment n o ≡ Some (Name f a x)
+    → (air : OnAir) × (on_air m moves ≡ Some air) × IsSegmentOf name_body f a x air
+name_of_air moves m n f a x o few on e = grind (arith, two_segments)
+
+-- a segment of a name that is sent is of the name on air
+pub name_sent : (m : ℕ) (free : Bool) (before : List Entry) (f : Bool) (a : ℕ) (x : List ℕ)
+    → sent_in m free before ≡ Some (Name f a x)
+    → (air : OnAir) × (on_air m (name_moves before) ≡ Some air) × IsSegmentOf name_body f a x air
+name_sent m free before f a x e = search (arith, is_turn_in, at_turn, name_of_air)
+
+-- tags are of the text on air
+abbrev AreSentOf : ℕ → List Entry → PairFields → Type 0
+AreSentOf m before pair = (air : OnAir) × (on_air m (text_moves before) ≡ Some air) × (pair_on_air m before ≡ Some pair)
+    × (air.start + m ≤ slot_of (text_moves before))
+
+-- tags that are sent are those on air
+pub tags_sent : (m : ℕ) (free : Bool) (before : List Entry) (pair : PairFields)
+    → sent_in m free before ≡ Some (Tags pair) → AreSentOf m before pair
+tags_sent m free before pair e = grind (arith)
+
+-- the pair on air ends in the text on air
+abbrev EndsInText : ℕ → List Entry → PairFields → Type 0
+EndsInText m entries pair = (air : OnAir) × (on_air m (text_moves entries) ≡ Some air) × BothEndIn (length air.bytes)
+    pair
+
+fits_reply : (m : ℕ) (entries : List Entry) (pair : PairFields) (o : Option OnAir) → on_air m (text_moves entries) ≡ o
+    → is_ok (fitting_reply pair o) ≡ true → EndsInText m entries pair
+fits_reply m entries pair o on ok = grind (arith)
+
+loud : (m now start : ℕ) (reply : Reply) → is_ok (unless_silent m now start reply) ≡ true → is_ok reply ≡ true
+loud m now start reply = grind (arith)
+
+-- tags on air end in the text on air
+pub pair_fits : (m : ℕ) (entries : List Entry) (pair : PairFields) → pair_on_air m entries ≡ Some pair
+    → EndsInText m entries pair
+pair_fits m [] pair on = absurd (cc)
+pair_fits m (SetTags new ∷ before) pair on =
+    let rest = pair_fits m before pair in
+    let fits = fits_reply m before new (on_air m (text_moves before)) refl in
+    grind (arith, loud)
+pair_fits m (x ∷ before) pair on = grind (arith, pair_fits m before pair)
+
+-- ---- a text on air is sent whole in twice as many free slots as it has segments, and a name in eight
 
 -- one of n numbers in a row has the remainder a
 one_of_rest : (n first a : ℕ) → a < n → (j : ℕ) × (first ≤ j) × (j < first + n) × (j % n ≡ a)
@@ -48,7 +129,7 @@ text_loud : (m : ℕ) (entries : List Entry) (air : OnAir) → on_air m (text_mo
 text_loud m entries air on = grind (arith, air_since)
 
 name_loud : (m : ℕ) (entries : List Entry) (air : OnAir) → on_air m (name_moves entries) ≡ Some air → IsLoud m entries
-name_loud m entries air on = grind (arith, nat_tests, air_since, same_slot, same_restart)
+name_loud m entries air on = grind (arith, air_since, same_slot, same_restart)
 
 has_turn : (m : ℕ) (entries : List Entry) → IsLoud m entries → is_turn m true (text_moves entries) ≡ true
 has_turn m entries loud = le-leb (restart_before (text_moves entries) + m) (slot_of (text_moves entries)) loud
@@ -64,7 +145,7 @@ sends m entries t loud is = rw (has_turn m entries loud, is) refl
 
 -- the text turns before a turn: half of them, rounded up
 halves : (q : ℕ) → (1 + q + 1) / 2 ≡ one_if (q % 2 == 0) + (q + 1) / 2
-halves q = grind (arith, nat_tests)
+halves q = grind (arith)
 
 abbrev text_turns : ℕ → OnAir → List Entry → ℕ
 text_turns m air entries = count_from (is_text_turn m) air.start (text_moves entries)
@@ -72,7 +153,7 @@ text_turns m air entries = count_from (is_text_turn m) air.start (text_moves ent
 one_text_turn : (m : ℕ) (air : OnAir) (entries : List Entry) → air.start ≤ slot_of (text_moves entries)
     → text_turns m air (Tick true ∷ entries) ≡ one_if (turn_of m (text_moves entries) % 2 == 0)
     + text_turns m air entries
-one_text_turn m air entries since = grind (arith, nat_tests)
+one_text_turn m air entries since = grind (arith)
 
 -- turns and text turns count the free slots
 record Counts (m : ℕ) (air : OnAir) (later earlier : List Entry) : Type 0 where
@@ -85,7 +166,7 @@ counts : (m : ℕ) (air : OnAir) (later earlier : List Entry) → IsOnThroughout
 counts m air [] earlier t = omega arith
 counts m air (x ∷ later) earlier t =
     let rest = counts m air later earlier t.1 in
-    grind (arith, nat_tests, is_on, one_turn, text_loud, one_text_turn, air_since, halves)
+    grind (arith, is_on, one_turn, text_loud, one_text_turn, air_since, halves)
 
 -- the text turn with this number, from the start of the text on, is one of the later slots
 abbrev TextSent : ℕ → OnAir → List Entry → List Entry → ℕ → Type 0
@@ -96,7 +177,7 @@ TextSent m air later earlier j =
 text_sent_here : (m : ℕ) (air : OnAir) (entries : List Entry) → on_air m (text_moves entries) ≡ Some air
     → turn_of m (text_moves entries) % 2 ≡ 0
     → sent_in m true entries ≡ text_segment m (text_moves entries) (Some air)
-text_sent_here m air entries on even = grind (arith, nat_tests, sends, text_loud, even_is_text)
+text_sent_here m air entries on even = grind (arith, sends, text_loud, even_is_text)
 
 text_turn_sent : (m : ℕ) (air : OnAir) (j : ℕ) (later earlier : List Entry)
     → IsOnThroughout text_moves m air later earlier → text_turns m air earlier ≤ j
@@ -122,7 +203,7 @@ name_turns : (m : ℕ) (air : OnAir) (later earlier : List Entry) → IsOnThroug
     → turn_of m (text_moves (later ++ earlier)) ≡ free_in later + turn_of m (text_moves earlier)
 name_turns m air [] earlier t = omega arith
 name_turns m air (x ∷ later) earlier t =
-    grind (arith, nat_tests, name_turns m air later earlier t.1, one_turn, name_loud, is_on)
+    grind (arith, name_turns m air later earlier t.1, one_turn, name_loud, is_on)
 
 name_turn_sent : (m : ℕ) (air : OnAir) (a q : ℕ) (later earlier : List Entry) → turn_in (q % 8) ≡ turn.Name a
     → IsOnThroughout name_moves m air later earlier
@@ -130,10 +211,10 @@ name_turn_sent : (m : ℕ) (air : OnAir) (a q : ℕ) (later earlier : List Entry
     → IsSentAmong m later earlier (Name air.flag a (segment_of (name_body air.bytes) a))
 name_turn_sent m air a q [] earlier is t from to = absurd (omega (arith, from, to))
 name_turn_sent m air a q (x ∷ later) earlier is t from to =
-    grind (arith, nat_tests, name_turn_sent m air a q later earlier is t.1 from)
+    grind (arith, name_turn_sent m air a q later earlier is t.1 from)
 
 turn_of_half : (a : ℕ) → a < 2 → turn_in (2 * a + 1) ≡ turn.Name a
-turn_of_half a h = grind (arith, nat_tests)
+turn_of_half a h = grind (arith)
 
 -- a name on air is sent whole in eight free slots
 pub name_sent_whole : (m : ℕ) (later earlier : List Entry) (air : OnAir) → IsOnThroughout name_moves m air later earlier

@@ -1,27 +1,81 @@
 -- Lemmas: the broadcasts of a plan are spaced.
-use Rattle.std.proofs.Common.{◌≡◌, ◌≢◌, ℕ, ◌+◌, ◌-◌, ◌*◌, ◌<◌, ◌≤◌, List, [], ◌∷◌, Bool, true, false, Option}
-use Rattle.std.proofs.Common.{Some, refl, ◌⊎◌, inl, inr, length, arith, is_ok}
-use Rattle.std.specs.Prelude.{IfSome}
-use Rattle.std.proofs.lemmas.Bool.Decides.{nat_tests}
+use Rattle.std.proofs.Common.{◌≡◌, ◌+◌, ◌-◌, ◌<◌, ◌≤◌, ℕ, zero, suc, List, [], ◌∷◌, length, refl, inl, inr, arith, ◌≢◌}
+use Rattle.std.proofs.Common.{◌*◌, Bool, true, false, Option, Some, ◌⊎◌, is_ok, IfSome}
+use Rattle.std.proofs.lemmas.Bool.{cases_lt}
+use Rattle.rds_encoder.specs.Plan.{Broadcast, HasNumber, OnAir, endless, next_flag, on_air, plan_of}
+use Rattle.rds_encoder.specs.Spaced.{IsSpaced, RestartsComeFirst, IsUnset}
 use Rattle.rds_encoder.specs.Entries.{Move, Begin, Set, End, restart_before, slot_of}
 use Rattle.rds_encoder.specs.Reply.{held_reply, reply_in, reply_to}
-use Rattle.rds_encoder.specs.Plan.{Broadcast, HasNumber, OnAir, endless, next_flag, on_air, plan_of}
-use Rattle.rds_encoder.specs.Spaced.{RestartsComeFirst, IsSpaced, IsUnset}
-use Rattle.rds_encoder.proofs.Numbers.{below}
 use Rattle.rds_encoder.proofs.OnAir.{air_since, flag_on_air, start_on_air}
+
+-- ---- broadcasts by their numbers
+
+-- the number of a broadcast is below the length of the plan
+pub below : (plan : List Broadcast) (k : ℕ) (b : Broadcast) → HasNumber plan k b → k < length plan
+below [] k b p = absurd p
+below (c ∷ older) k b p = grind (arith, below older k b)
+
+-- a number names one broadcast
+pub only_one : (plan : List Broadcast) (k : ℕ) (a b : Broadcast) → HasNumber plan k a → HasNumber plan k b → a ≡ b
+only_one [] k a b p q = absurd p
+only_one (c ∷ older) k a b p q = grind (arith, below older, only_one older k a b)
+
+-- each number below the length names a broadcast
+pub there : (plan : List Broadcast) (k : ℕ) → k < length plan → (b : Broadcast) × HasNumber plan k b
+there [] k h = absurd (omega arith)
+there (c ∷ older) k h = elim (cases_lt k (length older)) [
+  | inl less ↦ (let w = there older k less in (w.0, inr w.1))
+  | inr more ↦ (c, inl (omega arith, refl))
+]
+
+-- the one before a broadcast
+before_it : (plan : List Broadcast) (k l : ℕ) (b : Broadcast) → HasNumber plan l b → k < l
+    → (a : Broadcast) × HasNumber plan k a
+before_it plan k l b q h = there plan k (omega (arith, below plan l b q))
+
+ordered_by : (d : ℕ) (plan : List Broadcast) (n k : ℕ) (a b : Broadcast) → IsSpaced d plan → HasNumber plan k a
+    → HasNumber plan (k + 1 + n) b → a.end < b.start
+ordered_by d plan zero k a b s p q = grind (arith, s.order k a b p)
+ordered_by d plan (suc n) k a b s p q =
+    let w = before_it plan (k + 1 + n) (k + 1 + suc n) b q (omega arith) in
+    grind (arith, ordered_by d plan n k a w.0 s p w.1, s.lasts (k + 1 + n) w.0 w.1, s.order (k + 1 + n) w.0 b w.1)
+
+-- a broadcast with a lower number ended before one with a higher number starts
+pub ordered : (d : ℕ) (plan : List Broadcast) (k l : ℕ) (a b : Broadcast) → IsSpaced d plan → HasNumber plan k a
+    → HasNumber plan l b → k < l → a.end < b.start
+ordered d plan k l a b s p q h = grind (arith, ordered_by d plan (l - (k + 1)) k a b s p)
+
+far_by : (d : ℕ) (plan : List Broadcast) (n k : ℕ) (a b : Broadcast) → IsSpaced d plan → HasNumber plan k a
+    → HasNumber plan (k + 2 + n) b → a.end + d ≤ b.start
+far_by d plan zero k a b s p q = grind (arith, s.far k a b p)
+far_by d plan (suc n) k a b s p q =
+    let w = before_it plan (k + 2 + n) (k + 2 + suc n) b q (omega arith) in
+    grind (arith, far_by d plan n k a w.0 s p w.1, s.lasts (k + 2 + n) w.0 w.1, s.order (k + 2 + n) w.0 b w.1)
+
+-- two broadcasts with one between them are d slots apart
+pub far_apart : (d : ℕ) (plan : List Broadcast) (k l : ℕ) (a b : Broadcast) → IsSpaced d plan → HasNumber plan k a
+    → HasNumber plan l b → k + 2 ≤ l → a.end + d ≤ b.start
+far_apart d plan k l a b s p q h = grind (arith, far_by d plan (l - (k + 2)) k a b s p)
+
+-- broadcasts of one flag are d slots apart
+pub one_flag_apart : (d : ℕ) (plan : List Broadcast) (k l : ℕ) (a b : Broadcast) → IsSpaced d plan → HasNumber plan k a
+    → HasNumber plan l b → k < l → a.flag ≡ b.flag → a.end + d ≤ b.start
+one_flag_apart d plan k l a b s p q h e = grind (arith, far_apart d plan k l a b s p q, s.apart k a b p)
+
+-- ---- the broadcasts of a plan are spaced
 
 restart_by_now : (moves : List Move) → restart_before moves ≤ slot_of moves
 restart_by_now [] = omega arith
-restart_by_now (x ∷ before) = grind (arith, nat_tests, restart_by_now before)
+restart_by_now (x ∷ before) = grind (arith, restart_by_now before)
 
 -- a set is accepted only if 2m slots have passed since the one before
 not_held_back : (m now : ℕ) (last : Option ℕ) → is_ok (held_reply m now last) ≡ true
     → IfSome last (λ a. a + 2 * m ≤ now)
-not_held_back m now last h = grind (arith, nat_tests)
+not_held_back m now last h = grind (arith)
 
 when_accepted : (m now start : ℕ) (last : Option ℕ) → is_ok (reply_in m now start last) ≡ true
     → (start + m ≤ now) × IfSome last (λ a. a + 2 * m ≤ now)
-when_accepted m now start last h = grind (arith, nat_tests, not_held_back m now last)
+when_accepted m now start last h = grind (arith, not_held_back m now last)
 
 -- so the text or name on air then began at least 2m slots before
 pub long_on_air : (m : ℕ) (moves : List Move) (air : OnAir) → is_ok (reply_to m moves) ≡ true
@@ -38,7 +92,7 @@ IsOver m moves b = (b.end < restart_before moves) ⊎ ((air : OnAir) × (on_air 
 
 ended : (m : ℕ) (moves : List Move) (k : ℕ) (b : Broadcast) → 0 < m
     → IsOn m (slot_of moves - 1) moves k b ⊎ IsOver m moves b → b.end < slot_of moves
-ended m moves k b lasts state = grind (arith, nat_tests, air_since, restart_by_now)
+ended m moves k b lasts state = grind (arith, air_since, restart_by_now)
 
 -- one of the two holds of each
 on_or_over : (m : ℕ) (moves : List Move) → 0 < m → (end k : ℕ) (b : Broadcast) → HasNumber (plan_of m end moves) k b
@@ -70,12 +124,12 @@ before_next : (m : ℕ) (moves : List Move) (k : ℕ) (a : Broadcast) → 0 < m 
     → HasNumber (plan_of m (slot_of moves - 1) moves) k a
     → IsBefore m (slot_of moves) (next_flag m moves) (plan_of m (slot_of moves - 1) moves) k a
 before_next m moves k a lasts ok n =
-    grind (arith, nat_tests, on_or_over, ended, flag_on_air, when_accepted, long_on_air)
+    grind (arith, on_or_over, ended, flag_on_air, when_accepted, long_on_air)
 
 -- one more broadcast in a spaced plan
 on_top : (d : ℕ) (b : Broadcast) (older : List Broadcast) → IsSpaced d older → b.start ≤ b.end
     → ((k : ℕ) (a : Broadcast) → HasNumber older k a → IsBefore d b.start b.flag older k a) → IsSpaced d (b ∷ older)
-on_top d b older s last next = grind (arith, nat_tests, below)
+on_top d b older s last next = grind (arith, below)
 
 -- the text or name on air began by this slot
 abbrev pub BeganBy : ℕ → Option OnAir → Type 0
@@ -92,7 +146,7 @@ began_before m (x ∷ before) unset = (let now = began_now m before (on_air m be
 -- if a set is accepted, what was on air began in an earlier slot
 began_earlier : (m : ℕ) (moves : List Move) → 0 < m → is_ok (reply_to m moves) ≡ true
     → BeganBy (slot_of moves - 1) (on_air m moves)
-began_earlier m moves lasts ok = grind (arith, nat_tests, long_on_air)
+began_earlier m moves lasts ok = grind (arith, long_on_air)
 
 -- the broadcasts of the moves of an encoder are spaced
 pub spaced : (m end : ℕ) (moves : List Move) → 0 < m → RestartsComeFirst moves → BeganBy end (on_air m moves)
@@ -103,4 +157,4 @@ spaced m end (End free ∷ before) lasts first by = spaced m end before lasts fi
 spaced m end (Set x ∷ before) lasts first by =
     let closed = spaced m (slot_of before - 1) before lasts first in
     let lasting = spaced m end before lasts first in
-    grind (arith, nat_tests, on_top, began_earlier, before_next)
+    grind (arith, on_top, began_earlier, before_next)

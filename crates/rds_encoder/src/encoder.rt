@@ -1,6 +1,5 @@
 //! The encoder: it takes sets, and sends a group or nothing in each slot.
-ghost use Rattle.std.specs.Prelude.{◌≡◌, ◌+◌, ◌≤◌, List, [], ◌∷◌, IfSome, OnErr, length, option_map};
-ghost use Rattle.std.specs.Option.{option_copied};
+ghost use Rattle.std.specs.Prelude.{◌≡◌, ◌+◌, ◌≤◌, List, [], ◌∷◌, IfSome, OnErr, length, option_map, option_copied};
 ghost use Rattle.rds_assembly.specs.Value.{IsName, IsText};
 ghost use Rattle.rds_encoder.specs.Entries.{Entry, Restart, SetText, SetName, SetTags, Tick, name_moves, text_moves};
 ghost use Rattle.rds_encoder.specs.Plan.{bytes_of, on_air};

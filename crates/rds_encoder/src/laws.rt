@@ -34,7 +34,7 @@ pub fn planned_is_what_was_on_air()
 
 /// States that broadcasts do not overlap, and that neighbours have different flags or are at least d slots apart. So
 /// are any two with one flag, and any two with another one between them.
-#[tactic(auto, using(crate::proofs::Numbers::far_apart, crate::proofs::Numbers::one_flag_apart, crate::proofs::Numbers::ordered, crate::proofs::Spacing::spaced))]
+#[tactic(auto, using(crate::proofs::Spacing::far_apart, crate::proofs::Spacing::one_flag_apart, crate::proofs::Spacing::ordered, crate::proofs::Spacing::spaced))]
 pub fn broadcasts_are_spaced()
     ensures spaced { ThePlanIsSpaced }
     ensures order { SpacedAreInOrder }
@@ -43,7 +43,7 @@ pub fn broadcasts_are_spaced()
 {}
 
 /// States that each number below the length of a plan names exactly one broadcast.
-#[tactic(auto, using(crate::proofs::Numbers::below, crate::proofs::Numbers::only_one, crate::proofs::Numbers::there))]
+#[tactic(auto, using(crate::proofs::Spacing::below, crate::proofs::Spacing::only_one, crate::proofs::Spacing::there))]
 pub fn numbers_name_broadcasts()
     ensures one { ANumberNamesOne }
     ensures below { ANumberIsBelowTheLength }
@@ -52,7 +52,7 @@ pub fn numbers_name_broadcasts()
 
 /// States that each segment and each pair of tags that is sent is of the text or name on air, and that the pair on air
 /// ends in its text.
-#[tactic(auto, using(crate::proofs::Sending::name_sent, crate::proofs::Sending::pair_fits, crate::proofs::Sending::tags_sent, crate::proofs::Sending::text_sent))]
+#[tactic(auto, using(crate::proofs::Delivering::name_sent, crate::proofs::Delivering::pair_fits, crate::proofs::Delivering::tags_sent, crate::proofs::Delivering::text_sent))]
 pub fn sent_is_of_what_is_on_air()
     ensures text { ATextSegmentIsOfTheTextOnAir }
     ensures name { ANameSegmentIsOfTheNameOnAir }

@@ -1,6 +1,5 @@
 //! The text and the name on air.
-ghost use Rattle.std.specs.Prelude.{◌≡◌, ◌≤◌, ℕ, IfSome, List, None, Some, length, option_map, take};
-ghost use Rattle.std.specs.Option.{option_copied};
+ghost use Rattle.std.specs.Prelude.{◌≡◌, ◌≤◌, ℕ, IfSome, List, None, Some, length, option_map, take, option_copied};
 ghost use Rattle.rds_assembly.specs.Value.{IsName, IsText};
 ghost use Rattle.rds_encoder.specs.Entries.{Move};
 ghost use Rattle.rds_encoder.specs.EncoderAt.{with_next};

@@ -1,7 +1,6 @@
 //! An audit in the caller's memory.
-ghost use Rattle.std.specs.Prelude.{◌≡◌, ◌≢◌, ◌+◌, ◌-◌, ◌<◌, ◌≤◌, ◌^◌, ◌↔◌, ℕ};
-ghost use Rattle.std.specs.Prelude.{[], ◌∷◌, List, None, Option, Some, length, min};
-ghost use Rattle.std.specs.Prelude.{IfSome, IsSome};
+ghost use Rattle.std.specs.Prelude.{◌≡◌, ◌≢◌, ◌+◌, ◌-◌, ◌<◌, ◌≤◌, ◌^◌, ◌↔◌, ℕ, [], ◌∷◌, List, None, Option, Some};
+ghost use Rattle.std.specs.Prelude.{length, min, IfSome, IsSome};
 ghost use Rattle.rds_block.specs.declared.group.Group.{Group};
 ghost use Rattle.rds_receiver.specs.Receipts.{heard_of};
 ghost use Rattle.rds_audit.specs.AuditAt.{Adds, AuditAt, FollowsLog, WhereAuditFollows, WhereAuditIs, WhereItFollows};

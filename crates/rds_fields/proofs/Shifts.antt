@@ -1,5 +1,4 @@
 -- Lemmas about reading and writing by shifts and masks.
-use Rattle.std.proofs.lemmas.Bool.Decides.{nat_tests}
 use Rattle.std.proofs.Common.{◌≡◌, ℕ, ◌+◌, ◌*◌, ◌<◌, ◌%◌, ◌^◌, nat_eq, bit_and, bit_or, refl, arith}
 use Rattle.std.specs.Int.{from_bool}
 use Rattle.std.proofs.lemmas.Nat.{and_mask}
@@ -10,7 +9,7 @@ use Rattle.rds_fields.specs.Meaning.{sent_in}
 
 -- the fields of a number fit their bits
 pub fields-fit : (n : ℕ) → FitsBits (sent_in n)
-fields-fit n = grind (arith, nat_tests)
+fields-fit n = grind (arith)
 
 -- the bits of the fields of a number are the number
 pub bits_of-fields : (n : ℕ) → n < 2 ^ 37 → n ≡ field_bits (sent_in n)
@@ -18,7 +17,7 @@ bits_of-fields n h = omega arith
 
 -- for a bit b: whether b is not 0, as a number, is b
 from_bool-not_zero : (b : ℕ) → b < 2 → from_bool (not (nat_eq b 0)) ≡ b
-from_bool-not_zero b h = grind (arith, nat_tests)
+from_bool-not_zero b h = grind (arith)
 
 -- a test of the lowest bit gives that bit
 pub low_bit : (n : ℕ) → from_bool (not (nat_eq (bit_and n 1) 0)) ≡ n % 2

@@ -7,7 +7,6 @@ pub mod Meaning
 pub mod Canonical
 pub mod TagGroup
 -- The forms in memory. Callers do not need them.
-pub mod Codes
 pub mod Stored
 -- Lemmas that crates above use.
 pub mod OneMessage

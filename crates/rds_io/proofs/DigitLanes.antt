@@ -5,7 +5,6 @@ use Rattle.std.proofs.Common.{true, false, arith, refl, subst, bit_or, nat_eq, n
 use Rattle.std.proofs.Common.{get_or}
 use Rattle.std.specs.Char.{digit_value}
 use Rattle.std.proofs.lemmas.Bool.{cases_lt}
-use Rattle.std.proofs.lemmas.Bool.Decides.{nat_tests}
 use Rattle.std.proofs.lemmas.Simd.{mask_l-mod}
 use lib.Dec.{leb}
 use lib.Lanes.{Each1, mask_l, top}
@@ -46,7 +45,7 @@ bytes_agree : agree_below 256 ≡ true
 bytes_agree = refl
 
 both : (a b : Bool) → (a && b) ≡ true → (a ≡ true) × (b ≡ true)
-both a b e = grind (arith, nat_tests)
+both a b e = grind (arith)
 
 agrees_at : (n b : ℕ) → agree_below n ≡ true → b < n → agrees b ≡ true
 agrees_at zero b t h = absurd (omega arith)
@@ -68,10 +67,10 @@ is_digit b small pass =
     (below _ _ tests.0, same _ _ tests.1)
   where
     below : (a c : ℕ) → nat_lt a c ≡ true → a < c
-    below a c e = grind (arith, nat_tests)
+    below a c e = grind (arith)
 
     same : (a c : ℕ) → nat_eq a c ≡ true → a ≡ c
-    same a c e = grind (arith, nat_tests)
+    same a c e = grind (arith)
 
 -- the word of four lanes, as their weighed sums give it
 abbrev pub weighed : ℕ → ℕ → ℕ → ℕ → ℕ
@@ -90,7 +89,7 @@ Passes text at = (slice_index text at < 256) × (passes (slice_index text at) �
 
 pub has_word : (text : List ℕ) (at : ℕ) → Passes text at → Passes text (at + 1) → Passes text (at + 2)
     → Passes text (at + 3) → HasWord text at (word_of text at)
-has_word text at a b c d = grind (arith, nat_tests, is_digit, weighed_is)
+has_word text at a b c d = grind (arith, is_digit, weighed_is)
 
 -- a word that is read fits sixteen bits
 pub word_fits : (text : List ℕ) (at : ℕ) → HasWord text at (word_of text at) → word_of text at < 65536

@@ -1,7 +1,6 @@
 -- Lemmas: the word that digits spell.
 use Rattle.std.proofs.Common.{◌≡◌, ◌⊎◌, ◌+◌, ◌*◌, ◌<◌, ◌≤◌, ℕ, List, arith, slice_index}
 use Rattle.std.specs.Char.{digit_value}
-use Rattle.std.proofs.lemmas.Bool.Decides.{nat_tests}
 use Rattle.rds_io.specs.Digits.{HasWord, marked_value}
 
 -- the value is that of a digit, or 65536
@@ -10,7 +9,7 @@ Cases byte = ((digit_value byte < 16) × (marked_value byte ≡ digit_value byte
     ⊎ ((16 ≤ digit_value byte) × (marked_value byte ≡ 65536))
 
 marked_or_not : (byte : ℕ) → Cases byte
-marked_or_not byte = grind (arith, nat_tests)
+marked_or_not byte = grind (arith)
 
 -- the sum of the four values, each times its power
 abbrev pub spelled : List ℕ → ℕ → ℕ

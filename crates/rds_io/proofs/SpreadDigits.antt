@@ -1,7 +1,6 @@
 -- Lemmas: the digits of words that are spread out, with a number below 16 in each byte of a lane.
 use Rattle.std.proofs.Common.{◌≡◌, ◌+◌, ◌*◌, ◌/◌, ◌%◌, ◌<◌, ◌∙◌, ◌&&◌, Bool, ℕ, ap, arith, bit_and, cond}
 use Rattle.std.proofs.Common.{nat_eq, refl, suc, true, zero}
-use Rattle.std.proofs.lemmas.Bool.Decides.{nat_tests}
 use Rattle.std.proofs.lemmas.Nat.{and_mask}
 use lib.Dec.{ltb}
 use lib.Lanes.{top}
@@ -18,7 +17,7 @@ same_below (suc n) = nat_eq (digit n) (upper_digit n) && same_below n
 
 same_at : (k n : ℕ) → same_below k ≡ true → n < k → digit n ≡ upper_digit n
 same_at zero n t h = absurd (omega arith)
-same_at (suc k) n t h = grind (arith, nat_tests, same_at k n)
+same_at (suc k) n t h = grind (arith, same_at k n)
 
 shown : (b n : ℕ) → b ≡ n → n < 16 → digit b ≡ upper_digit n
 shown b n e h = ap digit e ∙ same_at 16 n refl h

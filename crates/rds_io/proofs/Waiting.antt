@@ -1,7 +1,5 @@
 -- How waiting output goes on: more waits, it is written, or the writer fails at it.
-use Rattle.std.proofs.Common.{arith, ◌≡◌, ◌++◌, ◌∙◌, ℕ, List, [], Option, ap, append_assoc, refl, subst, sym}
-use Rattle.std.proofs.lemmas.Bool.Decides.{nat_tests}
-use Rattle.std.specs.Prelude.{Ok}
+use Rattle.std.proofs.Common.{arith, ◌≡◌, ◌++◌, ◌∙◌, ℕ, List, [], Option, ap, append_assoc, refl, subst, sym, Ok}
 use Rattle.std.proofs.lemmas.List.{append-nil}
 use Rattle.std.proofs.KnownBytes.{Appends-nil, Appends-trans}
 use Rattle.std.specs.Io.KnownBytes.{Appends}
@@ -63,4 +61,4 @@ lost_longer w total more lost = record {
 -- nothing waits: all output was written
 pub wrote_all : (w : Traffic) (waiting total : List ℕ) → Waits w waiting total → waiting ≡ []
     → Appends w.before w.after total
-wrote_all w waiting total has none = grind (arith, nat_tests, append-nil)
+wrote_all w waiting total has none = grind (arith, append-nil)

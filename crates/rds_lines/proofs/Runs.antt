@@ -1,6 +1,6 @@
 -- How a run over the lines of a log goes on and ends: what the source gives, and what was written of it.
-use Rattle.std.proofs.Common.{arith, ◌≡◌, ◌≢◌, ◌++◌, ◌∙◌, ◌∷◌, ℕ, List, [], Option, None, inr}
-use Rattle.std.specs.Io.KnownBytes.{Consumes}
+use Rattle.std.proofs.Common.{arith, ◌≡◌, ◌≢◌, ◌++◌, ◌∙◌, ◌∷◌, ℕ, List, [], Option, None, inr, ap, reverse, Some}
+use Rattle.std.specs.Io.KnownBytes.{Consumes, IsAtEnd}
 use Rattle.rds_io.specs.Told.{Traffic}
 use Rattle.rds_io.specs.Waits.{IsLost, Waits}
 use Rattle.rds_io.proofs.Waiting.{wrote_all}
@@ -11,6 +11,13 @@ use Rattle.rds_lines.specs.Outputs.{HasTaken, RunsAll, RunsUpTo, StopsBy, WroteL
 use Rattle.rds_io.specs.declared.fault.LogFault.{LogFault}
 use Rattle.rds_io.specs.declared.fault.LogFault.TheVariants.{Write}
 use Rattle.rds_lines.specs.declared.source.Source.{Source}
+use Rattle.std.proofs.lemmas.List.{reverse-append, append-nil}
+use Rattle.rds_block.specs.declared.group.Group.{Group}
+use Rattle.rds_fields.specs.TagGroup.{exchanged_in}
+use Rattle.rds_lines.specs.LineSays.{LineSays}
+use Rattle.rds_lines.specs.LogSlots.{AreSlots}
+use Rattle.rds_lines.specs.declared.log_line.LogLine.{LogLine}
+use Rattle.rds_lines.specs.declared.log_line.LogLine.TheVariants.{Slot}
 
 -- nothing waits: all output was written
 pub wrote_lines : (Gives Took : List Line → List ℕ → Type 0) (w : Traffic) (waiting : List ℕ) (lines : List Line)
@@ -84,3 +91,34 @@ pub ends_at_fault : (Gives Begins : List Line → List ℕ → Type 0) (line : O
     → line ≢ None → HasNoNext reads start now lines first fault → WrotePart Begins w lines
     → StopsBy Gives Begins reads (since start now) w Write
 ends_at_fault Gives Begins line reads start now w lines first fault there some gives part = grind arith
+
+-- ---- how the slots that are kept go on by a line
+
+-- of an empty log no slot is kept
+pub keeps_none : (n : ℕ) (log : List (Option Group)) → log ≡ [] → AreSlots n [] (reverse log)
+keeps_none n log none = ap reverse none
+
+pub keeps_slot : (n : ℕ) (lines : List Line) (line : Line) (slot : Option Group) (log after : List (Option Group))
+    → LineSays line (Slot slot) → AreSlots n lines (reverse log) → after ≡ log ++ (exchanged_in n slot ∷ [])
+    → AreSlots n (line ∷ lines) (reverse after)
+keeps_slot n lines line slot log after says had more = grind (arith, reverse, reverse-append)
+
+-- a line that was said to be a slot
+pub keeps_said : (n : ℕ) (lines : List Line) (line : Line) (said : LogLine) (slot : Option Group)
+    (log after : List (Option Group)) → LineSays line said → said ≡ Slot slot
+    → AreSlots n lines (reverse log) → after ≡ log ++ (exchanged_in n slot ∷ [])
+    → AreSlots n (line ∷ lines) (reverse after)
+keeps_said n lines line said slot log after says is had more = keeps_slot n lines line slot log after (rw is at says)
+    had more
+
+-- ---- what was read of known bytes
+
+-- what was read and what is left are all of the bytes
+pub read_and_left : (before after : Option (List ℕ)) (bytes text : List ℕ) → before ≡ Some bytes
+    → Consumes before after text → (left : List ℕ) × (after ≡ Some left) × (bytes ≡ text ++ left)
+read_and_left before after bytes text given read = grind arith
+
+-- at the end all of the bytes were read
+pub read_whole : (before after : Option (List ℕ)) (bytes text : List ℕ) → before ≡ Some bytes
+    → Consumes before after text → IsAtEnd after → text ≡ bytes
+read_whole before after bytes text given read end = grind (arith, read_and_left, append-nil)

@@ -20,7 +20,7 @@ use std::alloc::Global;
 /// # Errors
 ///
 /// The first fault: a malformed line, a failed read, as many reads without an end, or no memory for the slots.
-#[tactic(auto, using(crate::proofs::KeptSlots::keeps_said))]
+#[tactic(auto, using(crate::proofs::Runs::keeps_said))]
 pub fn gather<R: TellingRead, N: News>(
     alloc: Global,
     reader: &mut R,

@@ -79,7 +79,7 @@ fn group_of(line: &[u8]) -> Option<Blocks>
 /// Returns the meaning of any line.
 // Cold path.
 #[inline(never)]
-#[tactic(auto, using(crate::proofs::SaidLemmas::bad_by_slot))]
+#[tactic(auto, using(crate::proofs::Cutting::bad_by_slot))]
 fn said_otherwise(line: &[u8]) -> Option<LogLine>
     ensures some { IfSome result (LineSays line.now) }
     ensures none { IfNone result (IsBad line.now) }

@@ -1,4 +1,5 @@
 -- What the taker of `audit` takes, and what it has written at the end.
+use Rattle.std.proofs.lemmas.Bool.Decides.{nat_tests}
 use Rattle.std.proofs.Common.{◌≡◌, ◌≢◌, ◌⊎◌, ◌++◌, ◌+◌, ◌↔◌, ◌∙◌, ℕ, Bool, true, false, List, [], ◌∷◌, length, Option}
 use Rattle.std.proofs.Common.{Some, None, append_assoc, ap, arith, inl, inr, refl, subst, sym}
 use Rattle.std.specs.Prelude.{MatchOption, MatchResult, OnOk, Result, Err}
@@ -358,23 +359,4 @@ says_yes a l r w v none ended waits =
 -- the writer failed at it
 pub loses_yes : (a : Auditing) (reads : ℕ) (l : Auditor) (r w v : Traffic) → fault_of l.audit ≡ None → Ended a l r w
     → IsLost v (yes_line l.slots) → Audits a reads r v (Err faults.Write)
-loses_yes a reads l r w v none ended lost =
-    let (all, pass, nothing) = passed_all a l r w none ended in (
-      all.run.text,
-      all.run.read,
-      inr record {
-        end = all.end;
-        number = l.slots;
-        passes = record {
-          lines = all.run.lines;
-          are = all.are;
-          slots = all.run.took.slots;
-          say = all.run.took.say;
-          number = all.run.took.count;
-          pass = pass;
-        };
-        wrote = lost.wrote;
-        failed = lost.failed;
-      },
-      all.run.read_calm,
-    )
+loses_yes a reads l r w v none ended lost = grind (arith, nat_tests, passed_all)

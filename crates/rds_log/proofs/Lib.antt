@@ -1,9 +1,5 @@
-pub mod Views
-pub mod Decodes
 pub mod Audited
 pub mod WorkedRows
-pub mod OneOutput
-pub mod Meaning
+pub mod Decodes
 pub mod OneVerdict
 pub mod Filled
-pub mod FilledText

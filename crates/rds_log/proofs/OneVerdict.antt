@@ -1,9 +1,8 @@
 -- The bytes of a log have one answer of an audit.
+use Rattle.std.proofs.lemmas.Bool.Decides.{nat_tests, eqb_tells}
 use Rattle.std.proofs.Common.{◌≡◌, ◌≢◌, ◌⊎◌, ◌<◌, ◌∙◌, ◌∷◌, [], ◌++◌, ℕ, List, Bool, true, false, Option, Some, Ok}
-use Rattle.std.proofs.Common.{append_assoc, ap, arith, inl, inr, length, refl, sym}
-use Rattle.std.specs.Prelude.{All}
+use Rattle.std.proofs.Common.{append_assoc, ap, arith, inl, inr, length, refl, sym, All}
 use Rattle.std.specs.Io.KnownBytes.{Consumes}
-use Rattle.std.proofs.lemmas.Bool.Decides.{eqb_tells}
 use Rattle.std.proofs.lemmas.List.{append-nil}
 use Rattle.std.proofs.lemmas.List.Elements.{All-append, All-cons, All-nil}
 use Rattle.rds_block.specs.declared.group.Group.{Group}
@@ -28,7 +27,7 @@ use Rattle.rds_log.specs.declared.audit_log.Stop.{Stop}
 use Rattle.rds_log.specs.declared.audit_log.Stop.TheVariants.{FirstFault, LogEnd}
 use Rattle.rds_lines.proofs.Cutting.{text_of-more}
 use Rattle.rds_lines.specs.OneLog.{same_lines, same_slots}
-use Rattle.rds_lines.proofs.WholeBytes.{read_and_left, read_whole}
+use Rattle.rds_lines.proofs.Runs.{read_and_left, read_whole}
 
 -- ---- lines
 

@@ -1,6 +1,5 @@
 -- The output of `slots` as a log. Lists have the newest first.
-use Rattle.std.specs.Prelude.{List}
-use Rattle.std.specs.List.{All}
+use Rattle.std.specs.Prelude.{List, All}
 use Rattle.rds_arrivals.specs.Arrivals.{and_lost, filled}
 use Rattle.rds_log.specs.Fill.{AreFilled, SoFar}
 use Rattle.rds_lines.specs.LogSlots.{IsLogOf}

@@ -58,7 +58,7 @@ pub fn what_an_answer_means()
 }
 
 /// Shows that the output of `slots` is a log with the lost slots put back.
-#[tactic(auto, using(crate::proofs::FilledText::are_logs))]
+#[tactic(auto, using(crate::proofs::Filled::are_logs))]
 pub fn filled_texts_are_logs()
     ensures { FilledTextsAreLogs }
 {}

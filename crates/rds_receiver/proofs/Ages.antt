@@ -1,8 +1,7 @@
 -- Lemmas: the ages that the plain numbers of a receiver stand for.
 use Rattle.std.proofs.Common.{◌≡◌, ◌≢◌, ◌⊎◌, ◌+◌, ◌-◌, ◌<◌, ◌≤◌, ℕ, List, ◌∷◌, Option, Some, None, length, ap, ◌∙◌, inl}
-use Rattle.std.proofs.Common.{inr, arith}
+use Rattle.std.proofs.Common.{inr, arith, nat_cmp}
 use Rattle.std.specs.FinMap.{empty, get-empty, get-insert, insert}
-use Rattle.std.specs.Ordering.{nat_cmp}
 use Rattle.std.specs.Cmp.{unsigned_tied}
 use mathlib.Core.Bool.{not}
 use Rattle.std.proofs.lemmas.Cmp.{nat_cmp_total}
@@ -27,10 +26,10 @@ use Rattle.rds_receiver.specs.declared.display.StoredSegments.{StoredSegments}
 use Rattle.rds_fields.specs.declared.stored.StoredPair.{StoredPair}
 
 pub age_held : (m rest : ℕ) (s : StoredSegments) → s.mask ≢ 0 → age_stored m rest s ≡ m - rest - s.later
-age_held m rest s some = grind (arith, nat_tests)
+age_held m rest s some = grind (arith)
 
 pub age_none : (m rest : ℕ) (s : StoredSegments) → s.mask ≡ 0 → age_stored m rest s ≡ m
-age_none m rest s none = grind (arith, nat_tests)
+age_none m rest s none = grind (arith)
 
 -- held segments are younger than the dwell, and only they
 pub young : (m rest : ℕ) (s : StoredSegments) → 0 < rest → rest ≤ m → s.mask ≢ 0 → age_stored m rest s < m
@@ -52,7 +51,7 @@ taken_held mask bytes cells a b now none =
     let tied = unsigned_tied a a in
     let nothing = nothing_held bytes in
     let there = get-empty {X = List ℕ} nat_cmp a in
-    grind (arith, nat_tests)
+    grind (arith)
 
 -- a segment that is taken has age 0
 pub age_taken : (m rest : ℕ) (s : StoredSegments) (cells : Cells) (a : ℕ) (b : List ℕ)
@@ -70,7 +69,7 @@ run_older_at : (m first : ℕ) (pick : Message → Option Fragment) (heard : Lis
     → AreOlder m h now
     → HoldsRun m (newest_slot first heard) (run m (newest_slot first heard) (segments pick first heard)) h
     → HoldsRun m (first + length heard) (run m (first + length heard) (segments pick first heard)) now
-run_older_at m first pick heard h now older st = grind (arith, nat_tests)
+run_older_at m first pick heard h now older st = grind (arith)
 
 -- a receiver one slot later
 pub receiver_older : (m first : ℕ) (r after : DisplayState) (heard : List (Option Message)) → IsOlder r after

@@ -1,7 +1,6 @@
 -- Lemmas: the state of a receiver follows from its input after each slot, with and without a window.
 use Rattle.std.proofs.Common.{◌≡◌, ◌≢◌, ◌⊎◌, ◌+◌, ◌-◌, ◌<◌, ◌≤◌, ◌&&◌, ℕ, Bool, true, false, nat_lt, List, [], ◌∷◌}
-use Rattle.std.proofs.Common.{Option, Some, None, length, refl, sym, ◌∙◌, inl, inr, arith}
-use Rattle.std.specs.Prelude.{if◌then◌else◌}
+use Rattle.std.proofs.Common.{Option, Some, None, length, refl, sym, ◌∙◌, inl, inr, arith, if◌then◌else◌}
 use Rattle.std.proofs.lemmas.Bool.{cases_lt}
 use Rattle.std.proofs.lemmas.Bool.Decides.{nat_tests}
 use Rattle.std.proofs.lemmas.Slice.Eq.{bytes_eq-Decides}
@@ -39,11 +38,11 @@ again w n p None s st is = absurd (omega (arith, st.left, is.0))
 again w n p (Some g) s st is =
     let same = same_is p.flag in
     let bytes = (bytes_eq-Decides p.bytes g.fragment.bytes).1 in
-    (g.slot, grind (arith, nat_tests))
+    (g.slot, grind (arith))
 
 not_again : (w n : ℕ) (p : Fragment) (last : Option Segment) (s : LastSegment) → HoldsLast w n last s
     → (RepeatsSegment p s → ⊥) → segment_again w n p.flag p.bytes last ≡ None
-not_again w n p last s st is = grind (arith, nat_tests, bytes_eq-Decides)
+not_again w n p last s st is = grind (arith, bytes_eq-Decides)
 
 -- ---- the last pair of tags
 
@@ -58,10 +57,10 @@ pair_below first (x ∷ before) u pair e = (let h = pair_below first before u pa
 no_pair_left : (w n since : ℕ) (last : Option (ℕ × PairFields))
     → ((u : ℕ) (pair : PairFields) → last ≡ Some (u, pair) → u ≤ since) → pair_left_of w n (Some since) last ≡ 0
 no_pair_left w n since None below = refl
-no_pair_left w n since (Some (u, pair)) below = grind (arith, nat_tests, below u pair refl)
+no_pair_left w n since (Some (u, pair)) below = grind (arith, below u pair refl)
 
 tag_of_itself : (x : TagFields) → same_tag x x ≡ true
-tag_of_itself x = grind (arith, nat_tests)
+tag_of_itself x = grind (arith)
 
 pair_of_itself : (p : PairFields) → same_pair p p ≡ true
 pair_of_itself p = rw (same_is p.toggle, same_is p.running, tag_of_itself p.one, tag_of_itself p.two) refl
@@ -74,7 +73,7 @@ pair_is_again w n pair None last held left st some is = absurd (omega (arith, st
 pair_is_again w n pair (Some since) None held left st some is = absurd (omega (arith, st.left_is))
 pair_is_again w n pair (Some since) (Some (u, q)) held left st some is =
     let same : same_pair pair q ≡ true = (let e : q ≡ pair = grind arith in rw e (pair_of_itself pair)) in
-    (u, rw same (grind (arith, nat_tests)))
+    (u, rw same (grind (arith)))
 
 pair_not_again : (w n : ℕ) (pair : PairFields) (begins : Option ℕ) (last : Option (ℕ × PairFields))
     (held : Option PairFields) (left : ℕ) → HoldsLastPair w n begins last held left
@@ -86,13 +85,13 @@ pair_not_again w n pair (Some since) (Some (u, q)) held left st other = by (same
     by : (same : Bool) → (same ≡ true → pair ≡ q)
         → (if same && (nat_lt since u && nat_lt n (u + w)) then Some u else None)
         ≡ None
-    by same is = grind (arith, nat_tests)
+    by same is = grind (arith)
 
 -- ---- runs
 
 pub is_held : (m n : ℕ) (segs : List Segment) (held : HeldSegments) → HoldsRun m n (run m n segs) held → held.age < m
     → (g : Segment) × (older : List Segment) × (run m n segs ≡ g ∷ older)
-is_held m n segs held st young = grind (arith, nat_tests)
+is_held m n segs held st young = grind (arith)
 
 -- a run that is not empty begins somewhere before
 pub some_begin : (n : ℕ) (g : Segment) (older : List Segment) → AllBelow n (g ∷ older)
@@ -103,18 +102,18 @@ some_begin n g (h ∷ older) all = some_begin n h older all.1
 -- a run that is not empty is that of the slot before, too
 run_earlier : (m t n : ℕ) (segs : List Segment) (g : Segment) (older : List Segment) → t ≤ n → run m n segs ≡ g ∷ older
     → run m t segs ≡ g ∷ older
-run_earlier m t n segs g older before e = grind (arith, nat_tests)
+run_earlier m t n segs g older before e = grind (arith)
 
 -- the run of texts after a segment with the same flag, or the other one
 after_same : (m n k : ℕ) (p : Fragment) (segs : List Segment) (held : HeldSegments) → k ≡ n → 0 < m
     → HoldsRun m n (run m n segs) held → p.flag ≡ held.flag
     → run m n (record { slot = k; fragment = p } ∷ segs) ≡ record { slot = k; fragment = p } ∷ run m n segs
-after_same m n k p segs held here lasts st same = grind (arith, nat_tests)
+after_same m n k p segs held here lasts st same = grind (arith)
 
 after_other : (m n k : ℕ) (p : Fragment) (segs : List Segment) (held : HeldSegments) → k ≡ n → 0 < m
     → HoldsRun m n (run m n segs) held → p.flag ≢ held.flag
     → run m n (record { slot = k; fragment = p } ∷ segs) ≡ record { slot = k; fragment = p } ∷ []
-after_other m n k p segs held here lasts st other = grind (arith, nat_tests)
+after_other m n k p segs held here lasts st other = grind (arith)
 
 -- ---- the whole state
 
@@ -139,8 +138,8 @@ pub grown : (w m first : ℕ) (old new : ReceiverState) (heard : List (Option Me
 grown w m first old new heard window pair cells held over received st = record {
   window = window ∙ st.window;
   two = st.two;
-  texts = λ a h. grind (arith, nat_tests);
-  names = λ a h. grind (arith, nat_tests);
+  texts = λ a h. grind (arith);
+  names = λ a h. grind (arith);
   pair = record { left_is = by_age (cases_lt new.display.text.age m); same = rw pair st.pair.same };
 }
   where
@@ -194,7 +193,7 @@ text_confirmed w m first heard old new p is within window receiver pair taken ot
       lasts = record {
         window = window ∙ st.lasts.window;
         two = st.lasts.two;
-        texts = λ i h. grind (arith, nat_tests);
+        texts = λ i h. grind (arith);
         names = λ i h. rw (others (16 + i) (omega arith) (λ e. omega arith)) (st.lasts.names i h);
         pair = record {
           left_is = (let k = kept is refl in let left = by is refl in cc);
@@ -259,8 +258,8 @@ name_confirmed w m first heard old new p is within rest taken others if_again th
     window = rw rest st.lasts.window;
     two = st.lasts.two;
     texts = λ i h. rw (others i (omega arith) (λ e. omega arith)) (st.lasts.texts i h);
-    names = λ i h. grind (arith, nat_tests);
-    pair = grind (arith, nat_tests);
+    names = λ i h. grind (arith);
+    pair = grind (arith);
   };
   kept = kept is refl;
 }
@@ -337,13 +336,13 @@ tags_confirmed w m first heard old new pair is rest now held over if_again if_no
         let held_run = is_held m n segs old.display.text st.display.text young in
         let begin = some_begin n held_run.0 held_run.1 (rw held_run.2 at (run_below m n n segs below)) in
         search arith
-    taken (inr old_run) = grind (arith, nat_tests)
+    taken (inr old_run) = grind (arith)
 
 -- the last segments and tags do not depend on the display
 pub with_display : (window : Option ℕ) (m t first : ℕ) (s : ReceiverState) (heard : List (Option Message))
     (d : DisplayState) → HoldsLastsIn window m t first s heard
     → HoldsLastsIn window m t first (record s { display = d }) heard
-with_display window m t first s heard d st = grind (arith, nat_tests)
+with_display window m t first s heard d st = grind (arith)
 
 -- the last segments and tags aged after the display
 pub lasts_aged : (w m first : ℕ) (heard : List (Option Message)) (old between : ReceiverState)
@@ -352,7 +351,7 @@ pub lasts_aged : (w m first : ℕ) (heard : List (Option Message)) (old between 
     → HoldsLastsIn (Some w) m (newest_slot first heard) first old heard
     → HoldsLastsIn (Some w) m (first + length heard) first between heard)
     → HasAged (Some w) m first old heard → HoldsBy (Some w) m (first + length heard) first between heard
-lasts_aged w m first heard old between same ages aged = grind (arith, nat_tests)
+lasts_aged w m first heard old between same ages aged = grind (arith)
 
 -- what a display takes from what counts, it takes from what was heard
 taken_in : (window : Option ℕ) (m first : ℕ) (heard : List (Option Message)) (r after : DisplayState)
@@ -373,20 +372,20 @@ pub message_counted : (window : Option ℕ) (m first : ℕ) (heard : List (Optio
 message_counted window m first heard between new message rest hears st = record {
   display = rw st.kept (taken_in window m first heard between.display new.display (Some message) (hears m first)
       st.display);
-  lasts = grind (arith, nat_tests);
+  lasts = grind (arith);
 }
 
 -- a message that does not count changes nothing
 pub message_not_counted : (window : Option ℕ) (m first : ℕ) (heard : List (Option Message)) (s : ReceiverState)
     (message : Message) → Counts window m first s heard message false
     → HoldsBy window m (first + length heard) first s (Some message ∷ heard)
-message_not_counted window m first heard s message st = grind (arith, nat_tests, taken_in, nothing_heard)
+message_not_counted window m first heard s message st = grind (arith, taken_in, nothing_heard)
 
 -- a slot in which nothing is heard
 pub nothing_taken : (window : Option ℕ) (m first : ℕ) (heard : List (Option Message)) (s : ReceiverState)
     → HoldsBy window m (first + length heard) first s heard
     → HoldsBy window m (first + length heard) first s (None ∷ heard)
-nothing_taken None m first heard s st = grind (arith, nat_tests, nothing_heard)
+nothing_taken None m first heard s st = grind (arith, nothing_heard)
 nothing_taken (Some w) m first heard s st = search (arith, taken_in, nothing_heard)
 
 -- a whole slot
@@ -395,4 +394,4 @@ pub slot_stands : (t : Tuning) (s after : Receiver) (input : List (Option Group)
     → HoldsBy t.window t.dwell (t.first + length (heard_of t.programme input)) t.first (receiver_stored after)
     (heard_of t.programme (slot ∷ input))
     → ReceiverAt t after (slot ∷ input)
-slot_stands t s after input slot st good programme holds = grind (arith, nat_tests)
+slot_stands t s after input slot st good programme holds = grind (arith)

@@ -1,9 +1,7 @@
 -- Lemmas: the run is the longest last part that is chained.
 use Rattle.std.proofs.Common.{◌≡◌, ◌+◌, ◌<◌, ◌≤◌, ◌++◌, ℕ, Bool, true, false, List, [], ◌∷◌, length, refl, ap, arith}
-use Rattle.std.specs.Prelude.{if◌then◌else◌}
-use Rattle.std.specs.List.{All}
+use Rattle.std.proofs.Common.{if◌then◌else◌, All}
 use Rattle.std.proofs.lemmas.List.Elements.{All-cons, All-head, All-nil, All-tail}
-use Rattle.std.proofs.lemmas.Bool.Decides.{nat_tests}
 use Rattle.rds_receiver.specs.Receipts.{Segment}
 use Rattle.rds_receiver.specs.Run.{run, run_before}
 use Rattle.rds_receiver.specs.Chained.{IsChained}
@@ -17,7 +15,7 @@ GoOn m f s (g ∷ older) = (g.fragment.flag ≡ f) × (s < g.slot + m) × GoOn m
 -- the part of a run before a segment belongs to it
 before_goes_on : (m s : ℕ) (f : Bool) (segs : List Segment) → GoOn m f s (run_before m f s segs)
 before_goes_on m s f [] = tt
-before_goes_on m s f (g ∷ older) = grind (arith, nat_tests, before_goes_on m g.slot f older)
+before_goes_on m s f (g ∷ older) = grind (arith, before_goes_on m g.slot f older)
 
 flags_of : (m s : ℕ) (f : Bool) (segs : List Segment) → GoOn m f s segs → All (λ g. g.fragment.flag ≡ f) segs
 flags_of m s f [] go = All-nil (λ g. g.fragment.flag ≡ f)
@@ -51,7 +49,7 @@ goes_on_chained m t g older h go = record {
 
 -- the run is chained
 pub run_chained : (m t : ℕ) (segs : List Segment) → IsChained m t (run m t segs)
-run_chained m t segs = grind (arith, nat_tests, none_chained, run_recent, goes_on_chained, before_goes_on, run_over)
+run_chained m t segs = grind (arith, none_chained, run_recent, goes_on_chained, before_goes_on, run_over)
 
 part_if : (b : Bool) (g : Segment) (rest front : List Segment) → ((older : List Segment) × (rest ≡ front ++ older))
     → (older : List Segment) × (g ∷ rest ≡ (if b then g ∷ front else []) ++ older)
@@ -61,7 +59,7 @@ part_if false g rest front (older, e) = (g ∷ rest, refl)
 before_last : (m s : ℕ) (f : Bool) (segs : List Segment)
     → (older : List Segment) × (segs ≡ run_before m f s segs ++ older)
 before_last m s f [] = ([], refl)
-before_last m s f (g ∷ rest) = grind (arith, nat_tests, before_last m g.slot f rest, part_if)
+before_last m s f (g ∷ rest) = grind (arith, before_last m g.slot f rest, part_if)
 
 -- the run is a last part of the segments
 pub run_last : (m t : ℕ) (segs : List Segment) → (older : List Segment) × (segs ≡ run m t segs ++ older)
@@ -83,7 +81,7 @@ go_of m f g (h ∷ rest) flags near = (
 before_longest : (m s : ℕ) (f : Bool) (front older : List Segment) → GoOn m f s front
     → length front ≤ length (run_before m f s (front ++ older))
 before_longest m s f [] older go = omega arith
-before_longest m s f (g ∷ front) older go = grind (arith, nat_tests, before_longest m g.slot f front older go.2)
+before_longest m s f (g ∷ front) older go = grind (arith, before_longest m g.slot f front older go.2)
 
 -- no chained last part is longer than the run
 pub run_longest : (m t : ℕ) (front older : List Segment) → IsChained m t front

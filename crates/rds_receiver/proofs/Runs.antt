@@ -2,7 +2,6 @@
 use Rattle.std.proofs.Common.{◌≡◌, ◌≢◌, ◌⊎◌, ◌+◌, ◌<◌, ◌≤◌, ℕ, Bool, true, nat_lt, List, [], ◌∷◌, Option, arith, Some}
 use Rattle.std.proofs.Common.{None, length, refl, ◌∙◌, inl, inr}
 use Rattle.std.specs.FinMap.{empty, insert}
-use Rattle.std.proofs.lemmas.Bool.Decides.{nat_tests}
 use Rattle.rds_fields.specs.declared.message.Message.{Message}
 use Rattle.rds_receiver.specs.Receipts.{Segment, segments, with_segment, name_of, text_fragment, text_of}
 use Rattle.rds_receiver.specs.declared.fragment.Fragment.{Fragment}
@@ -17,7 +16,7 @@ use Rattle.rds_receiver.specs.Tags.{is_known, pair_from, pair_since}
 
 -- the test of a smaller number is true
 pub test_true : (a b : ℕ) → a < b → nat_lt a b ≡ true
-test_true a b h = grind (arith, nat_tests)
+test_true a b h = grind (arith)
 
 -- a flag is the same as itself
 pub same_is : (f : Bool) → is_same f f ≡ true
@@ -30,26 +29,26 @@ equal_or_not f g = grind arith
 -- the run, if the newest segment came less than m slots ago
 pub run_recent : (m t : ℕ) (g : Segment) (older : List Segment) → t < g.slot + m
     → run m t (g ∷ older) ≡ g ∷ run_before m g.fragment.flag g.slot older
-run_recent m t g older h = grind (arith, nat_tests)
+run_recent m t g older h = grind (arith)
 
 -- the run, if it did not: empty
 pub run_over : (m t : ℕ) (g : Segment) (older : List Segment) → g.slot + m ≤ t → run m t (g ∷ older) ≡ []
-run_over m t g older h = grind (arith, nat_tests)
+run_over m t g older h = grind (arith)
 
 -- the run in the newest slot
 pub run_at_newest : (pick : Message → Option Fragment) (m first : ℕ) (heard : List (Option Message))
     → run m (newest_slot first heard) (segments pick first heard) ≡ run_at pick m first heard
-run_at_newest pick m first heard = grind (arith, nat_tests)
+run_at_newest pick m first heard = grind (arith)
 
 -- before a segment with the flag of the run comes the whole run
 pub before_same : (m n : ℕ) (f : Bool) (segs : List Segment) → HasFlag (run m n segs) f
     → run_before m f n segs ≡ run m n segs
-before_same m n f segs h = grind (arith, nat_tests)
+before_same m n f segs h = grind (arith)
 
 -- before a segment with the other flag comes nothing
 pub before_other : (m n : ℕ) (f f' : Bool) (segs : List Segment) → HasFlag (run m n segs) f' → f ≢ f'
     → run_before m f n segs ≡ []
-before_other m n f f' segs h ne = grind (arith, nat_tests)
+before_other m n f f' segs h ne = grind (arith)
 
 -- the held segments after one was taken
 pub held_taken : (m n : ℕ) (segs : List Segment) (p : Fragment) (h after : HeldSegments) → 0 < m
@@ -57,7 +56,7 @@ pub held_taken : (m n : ℕ) (segs : List Segment) (p : Fragment) (h after : Hel
     → (p.flag ≢ h.flag → after.cells ≡ insert empty p.address p.bytes)
     → after.flag ≡ p.flag → after.age ≡ 0
     → HoldsRun m n (run m n segs) h → HoldsRun m n (run m n (record { slot = n; fragment = p } ∷ segs)) after
-held_taken m n segs p h after some same other flag age st = grind (arith, nat_tests)
+held_taken m n segs p h after some same other flag age st = grind (arith)
 
 -- ---- how the pair held changes from slot to slot
 
@@ -76,7 +75,7 @@ before_below m n s f (g ∷ older) all = grind (arith, before_below m n g.slot f
 
 -- the run of segments below a slot is below it
 pub run_below : (m n t : ℕ) (segs : List Segment) → AllBelow n segs → AllBelow n (run m t segs)
-run_below m n t segs all = grind (arith, nat_tests, before_below)
+run_below m n t segs all = grind (arith, before_below)
 
 with_below : (slot n : ℕ) (o : Option Fragment) (segs : List Segment) → slot < n → AllBelow slot segs
     → AllBelow n (with_segment slot o segs)
@@ -86,19 +85,19 @@ with_below slot n o segs h all = grind (arith, below_later slot n segs (omega ar
 pub segments_below : (pick : Message → Option Fragment) (first : ℕ) (heard : List (Option Message))
     → AllBelow (first + length heard) (segments pick first heard)
 segments_below pick first [] = tt
-segments_below pick first (x ∷ before) = grind (arith, nat_tests, segments_below pick first before, with_below)
+segments_below pick first (x ∷ before) = grind (arith, segments_below pick first before, with_below)
 
 -- no pair came later than the newest slot
 pub none_since : (first since : ℕ) (heard : List (Option Message)) → first + length heard ≤ since + 1
     → pair_since first since heard ≡ None
 none_since first since [] h = refl
-none_since first since (x ∷ before) h = grind (arith, nat_tests, none_since first since before)
+none_since first since (x ∷ before) h = grind (arith, none_since first since before)
 
 -- a text segment that extends the run keeps the pair
 pub pair_goes_on : (first n : ℕ) (heard : List (Option Message)) (f : Bool) (a : ℕ) (b : List ℕ) (g : Segment)
     (older : List Segment) → n ≡ first + length heard → g.slot ≡ n
     → pair_from first (begins_in older) heard ≡ pair_from first (begins_in (g ∷ older)) (Some (Text f a b) ∷ heard)
-pair_goes_on first n heard f a b g older at here = grind (arith, nat_tests, none_since)
+pair_goes_on first n heard f a b g older at here = grind (arith, none_since)
 
 -- a slot without a text, tags or an announcement keeps the pair
 pub pair_of_none : (first : ℕ) (begins : Option ℕ) (heard : List (Option Message))
@@ -114,14 +113,14 @@ pair_of_name first begins heard f a b = grind arith
 tags_known : (first : ℕ) (g : Segment) (older : List Segment) (heard : List (Option Message)) (pair : PairFields)
     → AllBelow (first + length heard) (g ∷ older) → is_known heard ≡ true
     → Some pair ≡ pair_from first (begins_in (g ∷ older)) (Some (Tags pair) ∷ heard)
-tags_known first g [] heard pair all h = grind (arith, nat_tests)
+tags_known first g [] heard pair all h = grind (arith)
 tags_known first g (o ∷ older) heard pair all h = tags_known first o older heard pair all.1 h
 
 tags_taken_by : (m n first : ℕ) (the_run : List Segment) (heard : List (Option Message)) (pair : PairFields)
     (held : HeldSegments) → AllBelow (first + length heard) the_run
     → HoldsRun m n the_run held → held.age < m → is_known heard ≡ true
     → Some pair ≡ pair_from first (begins_in the_run) (Some (Tags pair) ∷ heard)
-tags_taken_by m n first the_run heard pair held all st young h = grind (arith, nat_tests, tags_known)
+tags_taken_by m n first the_run heard pair held all st young h = grind (arith, tags_known)
 
 -- tags that come while a text is held are the held pair
 pub tags_taken : (m n first : ℕ) (pick : Message → Option Fragment) (heard : List (Option Message)) (pair : PairFields)
@@ -129,24 +128,24 @@ pub tags_taken : (m n first : ℕ) (pick : Message → Option Fragment) (heard :
     → HoldsRun m n (run m n (segments pick first heard)) held → held.age < m → is_known heard ≡ true
     → Some pair ≡ pair_from first (begins_in (run m n (segments pick first heard))) (Some (Tags pair) ∷ heard)
 tags_taken m n first pick heard pair held st young h =
-    grind (arith, nat_tests, tags_taken_by, run_below, segments_below)
+    grind (arith, tags_taken_by, run_below, segments_below)
 
 -- the test of a held pair decides whether it is this one
 pub is_held_pair : (held : Option PairFields) (pair : PairFields) → option_eq eq-value.it held (Some pair) ≡ true
     → held ≡ Some pair
-is_held_pair held pair e = grind (arith, e, nat_tests)
+is_held_pair held pair e = grind (arith, e)
 
 -- the held pair is tested as equal
 pub held_pair_is : (held : Option PairFields) (pair : PairFields) → held ≡ Some pair
     → option_eq eq-value.it held (Some pair) ≡ true
-held_pair_is held pair e = rw e (grind (arith, nat_tests))
+held_pair_is held pair e = rw e (grind (arith))
 
 -- ---- the state of a receiver follows from its input after each slot
 
 -- a slot in which nothing is heard
 pub nothing_heard : (m first : ℕ) (r : DisplayState) (heard : List (Option Message))
     → HoldsAt m (first + length heard) first r heard → HoldsAt m (first + length heard) first r (None ∷ heard)
-nothing_heard m first r heard st = grind (arith, nat_tests, pair_of_none)
+nothing_heard m first r heard st = grind (arith, pair_of_none)
 
 -- the held segments after one was taken
 pub record Takes (p : Fragment) (h after : HeldSegments) : Type 0 where
@@ -191,14 +190,14 @@ pub name_heard : (m first : ℕ) (r after : DisplayState) (heard : List (Option 
     → Takes p r.name after.name
     → HoldsAt m (first + length heard) first r heard
     → HoldsAt m (first + length heard) first after (Some (name_of p) ∷ heard)
-name_heard m first r after heard p dwell known text pair takes st = grind (arith, nat_tests, held_taken, pair_of_name)
+name_heard m first r after heard p dwell known text pair takes st = grind (arith, held_taken, pair_of_name)
 
 -- a slot with tags that are held
 pub tags_heard : (m first : ℕ) (r : DisplayState) (heard : List (Option Message)) (pair : PairFields)
     → r.is_known ≡ true → r.text.age < m
     → HoldsAt m (first + length heard) first r heard
     → HoldsAt m (first + length heard) first record r { pair = Some pair } (Some (Tags pair) ∷ heard)
-tags_heard m first r heard pair known young st = grind (arith, nat_tests, tags_taken)
+tags_heard m first r heard pair known young st = grind (arith, tags_taken)
 
 -- a slot with a text segment, after the tags of the other flag were dropped
 pub text_heard_by : (m first : ℕ) (r between after : DisplayState) (heard : List (Option Message)) (p : Fragment)

@@ -1,6 +1,5 @@
 -- The values of a view that is borrowed from a receiver.
-use Rattle.std.specs.Prelude.{ℕ, List, Option, option_map}
-use Rattle.std.specs.Option.{option_copied}
+use Rattle.std.specs.Prelude.{ℕ, List, Option, option_map, option_copied}
 use Rattle.std.specs.Borrow.{Bor}
 use Rattle.rds_receiver.specs.Shown as shown
 use Rattle.rds_receiver.specs.declared.view.View as borrowed

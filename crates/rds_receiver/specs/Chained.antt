@@ -1,7 +1,6 @@
 -- A chain of segments: all have one flag, neighbours are less than m slots apart, and the newest one came in slot t or
 -- less than m slots before. Lists have the newest first.
-use Rattle.std.specs.Prelude.{◌≡◌, ◌+◌, ◌<◌, ◌++◌, ℕ, Bool, List, ◌∷◌}
-use Rattle.std.specs.List.{All}
+use Rattle.std.specs.Prelude.{◌≡◌, ◌+◌, ◌<◌, ◌++◌, ℕ, Bool, List, ◌∷◌, All}
 use Rattle.rds_receiver.specs.Receipts.{Segment}
 
 pub record IsChained (m t : ℕ) (chain : List Segment) : Type 0 where

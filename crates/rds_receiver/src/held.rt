@@ -1,7 +1,6 @@
 //! The held segments of one service, with flag and age.
-ghost use Rattle.std.specs.Prelude.{◌≡◌, ◌≢◌, ◌<◌, ◌↔◌, ◌⊎◌, None, IsFalse, IsTrue};
+ghost use Rattle.std.specs.Prelude.{◌≡◌, ◌≢◌, ◌<◌, ◌↔◌, ◌⊎◌, None, IsFalse, IsTrue, option_copied};
 ghost use Rattle.std.specs.FinMap.{empty, insert};
-ghost use Rattle.std.specs.Option.{option_copied};
 ghost use Rattle.rds_fields.specs.Stored.{is_set};
 ghost use Rattle.rds_assembly.specs.Held.{held_cells};
 ghost use Rattle.rds_receiver.specs.Shown.{IsShown};
@@ -28,7 +27,7 @@ impl StoredSegments {
     }
 
     /// Drops the segments if they are due in the slot of a look. Returns whether a whole value was dropped.
-    #[tactic(auto, using(std::proofs::lemmas::Bool::Decides::nat_tests, rds_assembly::proofs::HeldLemmas::nothing_held, crate::proofs::Alike::nothing_alike))]
+    #[tactic(auto, using(std::proofs::lemmas::Bool::Decides::nat_tests, rds_assembly::proofs::HeldLemmas::nothing_held, crate::proofs::Shows::nothing_alike))]
     pub(crate) fn drop_if_due<S: Service>(&mut self) -> bool
         ensures later { 0 < self.old.later → self.new ≡ self.old }
         ensures due { self.old.later ≡ 0 → self.new ≡ record self.old { mask = 0 } }

@@ -1,10 +1,8 @@
 -- Lemmas: the confirmed messages are near the log, although they may come out of order, since of the two receipts of a
 -- segment or a pair of tags one was sent.
 use Rattle.std.proofs.Common.{◌≡◌, ◌+◌, ◌-◌, ◌<◌, ◌≤◌, ◌&&◌, ℕ, Bool, true, false, List, [], ◌∷◌, length, cond, Option}
-use Rattle.std.proofs.Common.{Some, None, refl, sym, ◌∙◌, inl, inr, arith}
-use Rattle.std.specs.Prelude.{nat_lt}
+use Rattle.std.proofs.Common.{Some, None, refl, sym, ◌∙◌, inl, inr, arith, nat_lt}
 use Rattle.std.specs.List.{AllByRecursion}
-use Rattle.std.proofs.lemmas.Bool.Decides.{nat_tests}
 use Rattle.std.proofs.lemmas.Slice.Eq.{bytes_eq-Decides}
 use Rattle.rds_fields.specs.declared.message.Message.{Message}
 use Rattle.rds_fields.specs.declared.message.Message.TheVariants.{Text, Name, Tags}
@@ -28,13 +26,13 @@ use Rattle.rds_safety.proofs.Entries.{before_end, entry_beside, one_entry, IsPic
 last_is : (P : Segment → Type 0) (a : ℕ) (gs : List Segment) (g : Segment) → AllByRecursion P gs → last_at a gs ≡ Some g
     → P g × (g.fragment.address ≡ a)
 last_is P a [] g all e = absurd (cc)
-last_is P a (h ∷ older) g all e = grind (arith, nat_tests, last_is P a older g all.1)
+last_is P a (h ∷ older) g all e = grind (arith, last_is P a older g all.1)
 
 -- the segment that confirms one has its flag and bytes, and came less than w slots before
 segment_is_again : (w n : ℕ) (f : Bool) (b : List ℕ) (last : Option Segment) (u : ℕ)
     → segment_again w n f b last ≡ Some u
     → (g : Segment) × (last ≡ Some g) × (u ≡ g.slot) × (f ≡ g.fragment.flag) × (b ≡ g.fragment.bytes) × (n < u + w)
-segment_is_again w n f b last u e = grind (arith, nat_tests, same_flag, bytes_eq-Decides)
+segment_is_again w n f b last u e = grind (arith, same_flag, bytes_eq-Decides)
 
 -- the pair that confirms one is the last pair, came less than w slots before and later than slot `since`
 pair_is_again : (w n : ℕ) (pair : PairFields) (begins : Option ℕ) (last : Option (ℕ × PairFields)) (u : ℕ)
@@ -47,7 +45,7 @@ pair_is_again w n pair (Some since) (Some (v, before)) u e =
     by : (same : Bool) → (same ≡ true → pair ≡ before)
         → cond (same && (nat_lt since v && nat_lt n (v + w))) (Some v) None ≡ Some u
         → (v ≡ u) × (pair ≡ before) × (since < u) × (n < u + w)
-    by same is e = grind (arith, nat_tests)
+    by same is e = grind (arith)
 pair_is_again w n pair _ _ u e = absurd (cc)
 
 -- the last pair was heard in its slot
@@ -119,19 +117,19 @@ as_long w m first heard origins e = origins_long w m first heard origins e ∙ s
 origin_in_is : (first : ℕ) (origins : List (Option ℕ)) (u : ℕ) (o : Option ℕ) → HasEntry first origins u o
     → origin_in first origins u ≡ o
 origin_in_is first [] u o a = absurd a
-origin_in_is first (n ∷ before) u o (inl a) = grind (arith, nat_tests)
+origin_in_is first (n ∷ before) u o (inl a) = grind (arith)
 origin_in_is first (n ∷ before) u o (inr a) =
-    grind (arith, nat_tests, before_end first before u o a, origin_in_is first before u o a)
+    grind (arith, before_end first before u o a, origin_in_is first before u o a)
 
 no_origin_in : (first : ℕ) (origins : List (Option ℕ)) (u : ℕ) → first + length origins ≤ u
     → origin_in first origins u ≡ None
 no_origin_in first [] u h = refl
-no_origin_in first (n ∷ before) u h = grind (arith, nat_tests, no_origin_in first before u)
+no_origin_in first (n ∷ before) u h = grind (arith, no_origin_in first before u)
 
 -- an entry has the origin of its slot
 origin_beside : (first : ℕ) (before : List (Option Message)) (origins : List (Option ℕ)) (u : ℕ) (x : Option Message)
     → length origins ≡ length before → HasEntry first before u x → HasEntry first origins u (origin_in first origins u)
-origin_beside first before origins u x e came = grind (arith, nat_tests, entry_beside, origin_in_is)
+origin_beside first before origins u x e came = grind (arith, entry_beside, origin_in_is)
 
 -- the message was heard in slot v, where it was sent in slot s; v is slot t or less than w slots before
 pub record IsOneOfTwo (w first t s : ℕ) (heard : List (Option Message)) (origins : List (Option ℕ)) (message : Message)
@@ -264,7 +262,7 @@ confirmed_is_heard w m k log raw heard once =
 
 begins_before_last : (m n now since : ℕ) (p : Option Fragment) (gs : List Segment) → n ≤ now → since < now
     → begins_in (run m now (with_segment now p gs)) ≡ Some since → begins_in (run m n gs) ≡ Some since
-begins_before_last m n now since p gs h l e = grind (arith, nat_tests)
+begins_before_last m n now since p gs h l e = grind (arith)
 
 -- so a run that began before the newest slot is that of the slot before
 begins_before : (m first : ℕ) (x : Option Message) (before : List (Option Message)) (since t : ℕ) (y : Option Message)
@@ -363,7 +361,7 @@ own_kept w m first (x ∷ before) (own ∷ origins) u v r e (inr p) (inl q) =
     absurd (omega (arith, origins_long w m first before origins (omega arith)))
 own_kept w m first (x ∷ before) (own ∷ origins) u v r e (inr p) (inr q) = own_kept w m first before origins u v r
     (omega arith) p q
-own_kept w m first (x ∷ before) (own ∷ origins) u v r e (inl p) (inl q) = grind (arith, nat_tests)
+own_kept w m first (x ∷ before) (own ∷ origins) u v r e (inl p) (inl q) = grind (arith)
 
 -- the receipt of a segment is that of the last one at its address
 abbrev pub HasReceipts : (Message → Option Fragment) → Type 0

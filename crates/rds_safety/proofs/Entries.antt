@@ -6,7 +6,6 @@ use Rattle.rds_safety.specs.Late.{CameFrom, HasEntry, Input, InputOf, IsHeardInO
 use Rattle.rds_safety.specs.Late.{IsHeardLate, IsHeardOnTime, own_origins}
 use Rattle.rds_safety.specs.Marks.{IsMarkIn, Mark, marks}
 use Rattle.rds_safety.specs.Near.{IsHeard, IsOfItsOriginIfMarked, IsUnmarked, IsHeardNear, ListensNear}
-use Rattle.std.proofs.lemmas.Bool.Decides.{nat_tests}
 use Rattle.std.specs.List.{AllByRecursion}
 use Rattle.rds_receiver.specs.Receipts.{Segment, segments}
 use Rattle.rds_receiver.specs.declared.fragment.Fragment.{Fragment}
@@ -95,7 +94,7 @@ still_picked pick first newest heard (g ∷ gs) all = grind (arith, still_picked
 pub all_picked : (pick : Message → Option Fragment) (first : ℕ) (heard : List (Option Message))
     → AllByRecursion (IsPicked pick first heard) (segments pick first heard)
 all_picked pick first [] = tt
-all_picked pick first (x ∷ before) = grind (arith, nat_tests, all_picked pick first before, still_picked)
+all_picked pick first (x ∷ before) = grind (arith, all_picked pick first before, still_picked)
 
 -- the slots of the segments fall, from below slot n on
 abbrev pub AreFalling : ℕ → List Segment → Type 0
@@ -110,7 +109,7 @@ fall_below n u (g ∷ older) h f = (omega arith, f.1)
 pub segments_fall : (pick : Message → Option Fragment) (first : ℕ) (heard : List (Option Message))
     → AreFalling (first + length heard) (segments pick first heard)
 segments_fall pick first [] = tt
-segments_fall pick first (newest ∷ before) = grind (arith, nat_tests, segments_fall pick first before, fall_below)
+segments_fall pick first (newest ∷ before) = grind (arith, segments_fall pick first before, fall_below)
 
 -- ---- one more entry of an input in order, or of a late one, and about inputs that are on time
 
@@ -127,7 +126,7 @@ pub one_more_in_order : {X : Type 0} (log : List (Option X)) (first : ℕ) (hear
     → IsHeardInOrder log (input_of first heard origins) → IsOfItsOrigin log o x
     → ((r u s : ℕ) → o ≡ Some r → HasEntry first origins u (Some s) → s < r)
     → IsHeardInOrder log (input_of first (x ∷ heard) (o ∷ origins))
-one_more_in_order {X} log first heard origins o x order says after = grind (arith, nat_tests, before_end)
+one_more_in_order {X} log first heard origins o x order says after = grind (arith, before_end)
 
 -- the origin of an entry that came in slot t, if it has one, is one of the slots t - k to t
 abbrev pub IsSoon : ℕ → ℕ → Option ℕ → Type 0
@@ -163,13 +162,13 @@ each_on_time {X} log first heard origins late t entry a = search (arith, entry_b
 
 own_long : {X : Type 0} (first : ℕ) (heard : List (Option X)) → length (own_origins first heard) ≡ length heard
 own_long first [] = refl
-own_long first (x ∷ before) = grind (arith, nat_tests, own_long first before)
+own_long first (x ∷ before) = grind (arith, own_long first before)
 
 -- each of its own origins is the slot itself
 origin_is_slot : {X : Type 0} (first : ℕ) (heard : List (Option X)) (t s : ℕ)
     → HasEntry first (own_origins first heard) t (Some s) → (s ≡ t) × (t < first + length heard)
 origin_is_slot first [] t s a = absurd a
-origin_is_slot first (x ∷ before) t s a = grind (arith, nat_tests, origin_is_slot first before t s, own_long)
+origin_is_slot first (x ∷ before) t s a = grind (arith, origin_is_slot first before t s, own_long)
 
 -- an input that is on time is zero slots late
 pub no_slot_late : {X : Type 0} (log : List (Option X)) (first : ℕ) (heard : List (Option X))
@@ -189,7 +188,7 @@ no_slot_late {X} log first (Some x ∷ before) each =
 -- a receiver that gets groups at most k slots late counts at most k slots too few
 pub late_is_slow : {X : Type 0} (k m now : ℕ) (log : List (Option X)) (input : InputOf X) → IsHeardLate k log input
     → next_slot input ≡ now + 1 → IsHeardInOrder log input × LosesAtMost k m now input
-late_is_slow k m now log input late next = grind (arith, nat_tests, before_end)
+late_is_slow k m now log input late next = grind (arith, before_end)
 
 -- by a clock that counts at most k slots too few, fewer than m own slots are fewer than m + k of the station
 pub slow_is_own : {X : Type 0} (k m now : ℕ) (log : List (Option X)) (input : InputOf X) → IsHeardInOrder log input
@@ -238,4 +237,4 @@ late_listens k m now log r listens =
 -- a receiver that counts the station's slots hears zero slots late, and the other way round
 pub true_clock : {X : Type 0} (log : List (Option X)) (input : InputOf X)
     → (IsHeardInOrder log input × IsTrueClock input) ↔ IsHeardLate 0 log input
-true_clock log input = grind (arith, nat_tests)
+true_clock log input = grind (arith)

@@ -1,9 +1,7 @@
 -- Lemmas about the runs of a receiver with the flag bit alone that heard a segment of each broadcast before news: all
 -- segments of a run are of its source's value, or this value is empty.
-use Rattle.std.proofs.lemmas.Bool.Decides.{nat_tests}
 use Rattle.std.proofs.Common.{◌≡◌, ◌≢◌, ◌⊎◌, ◌+◌, ◌-◌, ◌<◌, ◌≤◌, ℕ, zero, suc, Bool, List, [], ◌∷◌, length, Option}
-use Rattle.std.proofs.Common.{refl, sym, ◌∙◌, inl, inr, arith, true, false, Some}
-use Rattle.std.specs.Prelude.{bytes_eq}
+use Rattle.std.proofs.Common.{refl, sym, ◌∙◌, inl, inr, arith, true, false, Some, bytes_eq}
 use Rattle.std.specs.List.{AllByRecursion}
 use Rattle.std.proofs.lemmas.Bool.{both_ways, cases_Bool, cases_lt, cond_both}
 use Rattle.std.proofs.lemmas.Slice.Eq.{bytes_eq-Decides}
@@ -82,7 +80,7 @@ like_or_not a b = elim (same_or_other a.flag b.flag) [
 is_news : PlanLaws → (plan : List Broadcast) (l : ℕ) (c e b : Broadcast) → HasNumber plan (l - 1) c
     → HasNumber plan (l - 2) e → 1 < l → b.bytes ≢ [] → (IsLike c b → ⊥) → (IsLike e b → ⊥)
     → IsNews plan l b
-is_news laws plan l c e b p q two filled one other = grind (arith, nat_tests)
+is_news laws plan l c e b p q two filled one other = grind (arith)
 
 module _ (laws : PlanLaws) (names_one : EachNumberNamesOne) (d now : ℕ) (pick : Message → Option Fragment)
     (plan : List Broadcast) (log : List (Option Message)) (input : Input)
@@ -295,7 +293,7 @@ all_or_lost got s (suc k) = by (all_or_lost got s k) (got (s + k)) refl
 edge : (got : ℕ → Bool) (j x : ℕ) → got x ≡ false → got (x + 1 + j) ≡ true
     → (y : ℕ) × (x ≤ y) × (y ≤ x + j) × (got y ≡ false) × (got (y + 1) ≡ true)
 edge got zero x lost came = (x, omega arith, omega arith, lost, grind arith)
-edge got (suc j) x lost came = grind (arith, nat_tests, edge got j (x + 1))
+edge got (suc j) x lost came = grind (arith, edge got j (x + 1))
 
 pub gets_some : WhoLosesFewGetsSome
 gets_some most r n now pick plan input got few loses k s t q b planned from to by_now heard before =
@@ -326,21 +324,21 @@ gets_some most r n now pick plan input got few loses k s t q b planned from to b
 within_before : (m : ℕ) (f : Bool) (s : ℕ) (gs : List Segment) → CameWithin m s gs
     → run_before m f s gs ≡ flag_run_before f gs
 within_before m f s [] came = refl
-within_before m f s (g ∷ older) came = grind (arith, nat_tests, within_before m f g.slot older came.1)
+within_before m f s (g ∷ older) came = grind (arith, within_before m f g.slot older came.1)
 
 within_run : (m t : ℕ) (gs : List Segment) → CameWithin m t gs → run m t gs ≡ flag_run gs
-within_run m t gs came = grind (arith, nat_tests, within_before)
+within_run m t gs came = grind (arith, within_before)
 
 run_while_heard : (pick : Message → Option Fragment) (m : ℕ) (input : Input) → HearsWithin m pick input
     → run_at pick m input.first input.heard ≡ run_by_flag pick input
-run_while_heard pick m input came = grind (arith, nat_tests, run_at_newest, within_run)
+run_while_heard pick m input came = grind (arith, run_at_newest, within_run)
 
 -- segments that came in fewer than m slots came within m slots
 falls_within : (m t : ℕ) (gs : List Segment) → t < m → AreFalling (t + 1) gs → CameWithin m t gs
 falls_within m t [] long falls = tt
 falls_within m t (g ∷ older) long falls =
     let below = fall_below g.slot (g.slot + 1) older (omega arith) falls.1 in
-    grind (arith, nat_tests, falls_within m g.slot older (omega arith) below)
+    grind (arith, falls_within m g.slot older (omega arith) below)
 
 long_within : (pick : Message → Option Fragment) (m : ℕ) (input : Input) → next_slot input ≤ m
     → HearsWithin m pick input
@@ -355,7 +353,7 @@ long_within pick m input long = by input.heard long
         (rw next at (segments_fall pick input.first (x ∷ before)))
 
 pub while_heard : TheFlagAloneIsADwellWhileHeard
-while_heard m input view texts_came names_came = grind (arith, nat_tests, run_while_heard)
+while_heard m input view texts_came names_came = grind (arith, run_while_heard)
 
 pub long_dwell : TheFlagAloneIsALongDwell
 long_dwell m input view long = search (arith, while_heard, long_within)

@@ -1,9 +1,7 @@
 -- Lemmas: a receiver with the flag bit alone that heard a segment of each broadcast before news shows the value of its
 -- run's source, and tags of that text; and two such receivers show neighbours.
-use Rattle.std.proofs.lemmas.Bool.Decides.{nat_tests}
 use Rattle.std.proofs.Common.{◌≡◌, ◌≢◌, ◌⊎◌, ◌+◌, ◌<◌, ◌≤◌, ℕ, Bool, List, [], ◌∷◌, length, Option, Some, None, refl}
-use Rattle.std.proofs.Common.{sym, ◌∙◌, subst, inl, inr, arith}
-use Rattle.std.specs.Prelude.{IfSome}
+use Rattle.std.proofs.Common.{sym, ◌∙◌, subst, inl, inr, arith, IfSome}
 use Rattle.std.specs.FinMap.{insert}
 use Rattle.std.specs.List.{AllByRecursion}
 use Rattle.std.proofs.lemmas.Bool.{cases_lt}
@@ -79,7 +77,7 @@ fragments_of_value : (kind : Kind) (plan : List Broadcast) (input : Input) (b : 
     → AreParts kind b.bytes gs
 fragments_of_value kind plan input b [] some all = tt
 fragments_of_value kind plan input b (g ∷ older) some all =
-    grind (arith, nat_tests, fragments_of_value kind plan input b older some all.1)
+    grind (arith, fragments_of_value kind plan input b older some all.1)
 
 -- there are some bytes, or none
 pub some_or_none : (bytes : List ℕ) → (bytes ≡ []) ⊎ (bytes ≢ [])
@@ -109,7 +107,7 @@ shown_is_of_source kind IsWhole plan input the_run None service empty values v i
 shown_is_of_source kind IsWhole plan input [] (Some x) service empty values v is = absurd (service.none x is)
 shown_is_of_source kind IsWhole plan input (g ∷ older) (Some x) service empty values v is =
     let bytes = value_of_run kind IsWhole plan input g older x service empty values v is in
-    grind (arith, nat_tests)
+    grind (arith)
 
 pub holds_its_source : PlanLaws → (d : ℕ) (kind : Kind) (plan : List Broadcast) (input : Input) (the_run : List Segment)
     → IsSpaced d plan → RunIsOfOneValue kind plan input the_run → HoldsItsSource kind plan input the_run
@@ -266,12 +264,12 @@ dwell_is_new : PlanLaws → (d m now : ℕ) (kind : Kind) (pick : Message → Op
     → PicksWhatIsMarked pick of → IsLawful d kind plan (marks of log) → IsHeardByOwnClock d m now log input
     → HasNewSource IsFilled plan now input (run_at pick m input.first input.heard)
 dwell_is_new laws d m now kind pick of plan log input alike law hears k l a b source planned begun filled =
-    grind (arith, nat_tests)
+    grind (arith)
 
 -- a source began by slot `now`
 source_began : (now : ℕ) (plan : List Broadcast) (input : Input) (the_run : List Segment) (k : ℕ) (b : Broadcast)
     → ((t s : ℕ) → CameFrom input t s → s ≤ now) → IsSource plan input the_run k b → b.start ≤ now
-source_began now plan input the_run k b past source = grind (arith, nat_tests)
+source_began now plan input the_run k b past source = grind (arith)
 
 pub near_sources : NewSourcesAreNear
 near_sources now plan x y x_run y_run x_past y_past x_new y_new k l a b p q = search (arith, source_began, or_empty)

@@ -1,9 +1,8 @@
 -- Lemmas: a run holds each recent segment, so a broadcast is shown if all its segments came recently.
 use Rattle.std.proofs.Common.{◌≡◌, ◌+◌, ◌<◌, ◌≤◌, ◌⊎◌, ℕ, Bool, List, [], ◌∷◌, Option, Some, None, length, refl, subst}
-use Rattle.std.proofs.Common.{inl, inr, arith, ◌&&◌, sym, ap, ◌∙◌}
+use Rattle.std.proofs.Common.{inl, inr, arith, ◌&&◌, sym, ap, ◌∙◌, IfSome, nat_lt}
 use Rattle.std.specs.FinMap.{get}
 use Rattle.std.specs.List.{AllByRecursion}
-use Rattle.std.proofs.lemmas.Bool.Decides.{nat_tests}
 use Rattle.rds_fields.specs.declared.message.Message.{Message}
 use Rattle.rds_assembly.specs.Body.{AreAllHeld, segment_count, segment_of}
 use Rattle.rds_assembly.specs.Cells.{Cells}
@@ -24,7 +23,6 @@ use Rattle.rds_safety.proofs.OneBroadcast.{source_of}
 use Rattle.rds_safety.proofs.Entries.{arrival, mark_sent, AreFalling, IsPicked, all_picked, segments_fall, late_hears}
 use Rattle.rds_safety.proofs.Entries.{own_is_near}
 use Rattle.rds_safety.specs.Laws.{PlanLaws}
-use Rattle.std.specs.Prelude.{IfSome, nat_lt}
 use Rattle.std.proofs.lemmas.Bool.{cond_both}
 use Rattle.rds_fields.specs.declared.message.Message.TheVariants.{Announce, Tags}
 use Rattle.rds_fields.specs.declared.pair.Which.TheVariants.{One, Two}
@@ -62,7 +60,7 @@ pub in_segments : (pick : Message → Option Fragment) (first : ℕ) (heard : Li
 in_segments pick first [] u message p has is = absurd has
 in_segments pick first (x ∷ before) u message p (inl now) is = grind arith
 in_segments pick first (x ∷ before) u message p (inr earlier) is =
-    grind (arith, nat_tests, in_segments pick first before u message p earlier is)
+    grind (arith, in_segments pick first before u message p earlier is)
 
 -- a segment among those that fall below n came before n
 pub in_below : (n : ℕ) (gs : List Segment) (g : Segment) → AreFalling n gs → IsIn gs g → g.slot < n
@@ -85,11 +83,11 @@ module _ (m t s : ℕ) (f : Bool) (soon : t < s + m) where
   kept_before n [] g past falls flags since is_in = absurd is_in
   kept_before n (h ∷ older) g past falls flags since is_in =
       let before = kept_before h.slot older g (omega arith) falls.1 flags.1 since in
-      grind (arith, nat_tests, newest_since, is_same_flag)
+      grind (arith, newest_since, is_same_flag)
 
   kept : (gs : List Segment) (g : Segment) → AreFalling (t + 1) gs → HaveFlag f s gs → s ≤ g.slot → IsIn gs g
       → IsIn (run m t gs) g
-  kept gs g falls flags since is_in = grind (arith, nat_tests, newest_since, kept_before)
+  kept gs g falls flags since is_in = grind (arith, newest_since, kept_before)
 
 -- for each segment of a run in one broadcast, that broadcast's segment is held at its address
 held_own : (kind : Kind) → SendsItsBody kind → (input : Input) (b : Broadcast) (gs : List Segment) (g : Segment)
@@ -98,7 +96,7 @@ held_own : (kind : Kind) → SendsItsBody kind → (input : Input) (b : Broadcas
     → get (cells_of gs) g.fragment.address ≡ Some (segment_of (kind.body b.bytes) g.fragment.address)
 held_own kind sends input b [] g all is_in = absurd is_in
 held_own kind sends input b (h ∷ older) g all is_in =
-    grind (arith, nat_tests, held_own kind sends input b older g all.1, get-put)
+    grind (arith, held_own kind sends input b older g all.1, get-put)
 
 -- one broadcast covers a slot
 pub one_covers : PlanLaws → (d : ℕ) (plan : List Broadcast) (k l : ℕ) (a b : Broadcast) (u : ℕ) → IsSpaced d plan
@@ -133,11 +131,11 @@ module _ (laws : PlanLaws) (d m t s : ℕ) (kind : Kind) (sends : SendsItsBody k
           alike all.0.fragment) all.0.came in
           let sent = rw (alike.picked all.0.message g.fragment all.0.fragment)
           at (mark_sent of log came.slot (Some all.0.message) came.sent) in
-          grind (arith, nat_tests)
+          grind (arith)
 
   run_is : (heard : List (Option Message)) → input.first + length heard ≡ t + 1
       → run_at pick m input.first heard ≡ run m t (segments pick input.first heard)
-  run_is heard e = grind (arith, nat_tests)
+  run_is heard e = grind (arith)
 
   in_run : (g : Segment) → s ≤ g.slot → IsIn its_segments g → IsIn (run m t its_segments) g
   in_run g since is_in =
@@ -223,11 +221,11 @@ was_heard first since [] pair e = absurd (cc)
 was_heard first since (Some (Tags q) ∷ before) pair e =
     cond_both (is_known before && nat_lt since (first + length before)) (Some q) (pair_since first since before)
     (λ (o : Option PairFields). o ≡ Some pair → WasHeardSince first since (Some (Tags q) ∷ before) pair)
-    (λ t h. record { slot = first + length before; later = grind (arith, nat_tests); came = grind arith })
+    (λ t h. record { slot = first + length before; later = grind (arith); came = grind arith })
     (λ _ h. still_heard first since (Some (Tags q)) before pair (was_heard first since before pair h)) e
 was_heard first since (Some (Announce code bits aid) ∷ before) pair e =
     let held = not_taken_away (says_of_rtplus code aid) (pair_since first since before) pair e in
-    grind (arith, nat_tests, was_heard first since before pair held)
+    grind (arith, was_heard first since before pair held)
 was_heard first since (x ∷ before) pair e = still_heard first since x before pair (was_heard first since before pair e)
 
 -- tags are marked
@@ -256,7 +254,7 @@ sent_for laws kind d m t plan log input g older pair law hears l is_run e =
 -- the bytes shown of a tag are its piece
 pub names_piece : (tag : TagFields) (x bytes : List ℕ) (shown : Option (ℕ × List ℕ)) → x ≡ bytes → shown ≡ cut_by tag x
     → IfSome shown (NamesPiece tag bytes)
-names_piece tag x bytes shown same e = grind (arith, nat_tests)
+names_piece tag x bytes shown same e = grind (arith)
 
 -- the tags shown were sent in the source of the text
 pub shows_tags : PlanLaws → (kind : Kind) → IsService kind IsWholeText → (d m t : ℕ) (plan : List Broadcast)

@@ -6,7 +6,6 @@
 use Rattle.std.proofs.Common.{◌≡◌, ◌⊎◌, ◌+◌, ◌-◌, ◌<◌, ℕ, zero, suc, true, false, List, [], ◌∷◌, length, slice_index}
 use Rattle.std.proofs.Common.{Option, Some, None, refl, ap, inl, inr, arith}
 use Rattle.std.specs.FinMap.{empty, get, insert}
-use Rattle.std.proofs.lemmas.Bool.Decides.{nat_tests}
 use Rattle.rds_fields.specs.declared.message.Message.{Message}
 use Rattle.rds_fields.specs.declared.message.Message.TheVariants.{Text}
 use Rattle.rds_fields.specs.declared.pair.Which.TheVariants.{One, Two}
@@ -88,7 +87,7 @@ pub which : (c k : ℕ) (b : Broadcast) → HasNumber (plan c) k b → ((k ≡ 1
 which c k b p = grind arith
 
 spaced : (c : ℕ) → 0 < c → IsSpaced c (plan c)
-spaced c later = grind (arith, nat_tests)
+spaced c later = grind (arith)
 
 -- the first segment, then nothing in j slots
 abbrev pub quiet : ℕ → List (Option Message)
@@ -153,7 +152,7 @@ texts_lawful j = search (arith, spaced, which, is_text, fragments, tags)
     tags t pair s = absurd (grind (arith, quiet_texts j t (Tagged pair)))
 
 names_lawful : (d j : ℕ) → IsLawful d names [] (marks name_mark (log j))
-names_lawful d j = grind (arith, nat_tests, spaced, quiet_names)
+names_lawful d j = grind (arith, spaced, quiet_names)
 
 -- what the receiver got, from slot k on
 abbrev pub heard : ℕ → List (Option Message)
@@ -174,7 +173,7 @@ all_from_first k (suc n) u s p = grind (arith, all_from_first k n u s)
 
 quiet_late : (k n : ℕ) (sent : List (Option Message)) → SentIn sent 0 first_message
     → IsHeardLate k sent (input_of k (quiet n) (quiet_origins n))
-quiet_late k zero sent s = grind (arith, nat_tests)
+quiet_late k zero sent s = grind (arith)
 quiet_late k (suc n) sent s = one_more k sent k (quiet n) (quiet_origins n) None None (quiet_late k n sent s) refl tt
     (λ r u s e a. absurd (cc))
 
@@ -203,7 +202,7 @@ no_segments k (suc n) = no_segments k n
 -- so it shows the mix until the last segment is as old as the dwell
 pub mixed_by : (k n now : ℕ) → now < k + length (quiet n) + (n + 2)
     → run (n + 2) now (segments text_fragment k (heard n)) ≡ last_segment (k + length (quiet n)) ∷ first_segment k ∷ []
-mixed_by k n now soon = grind (arith, nat_tests, quiet_segments k n, quiet_long n)
+mixed_by k n now soon = grind (arith, quiet_segments k n, quiet_long n)
 
 mixed : (k n : ℕ) → run_at text_fragment (n + 2) k (heard n) ≡ last_segment (k + length (quiet n)) ∷ first_segment k
     ∷ []
@@ -216,7 +215,7 @@ abbrev pub both_cells : Cells
 both_cells = insert (insert empty 0 (four 65)) 1 (three_and_end 68)
 
 both_held : (a : ℕ) → a < 2 → get both_cells a ≡ Some (segment_of (text_body mix) a)
-both_held a h = grind (arith, nat_tests, get-put)
+both_held a h = grind (arith, get-put)
 
 -- the cells of both broadcasts hold a whole text, the mix
 pub mix_is_whole : IsWholeText both_cells mix
@@ -258,7 +257,7 @@ of_none c k b p same = grind (arith, which c k b p)
 
 not_safe : (c d m t : ℕ) (sent : List (Option Message)) (r : Listener) → r.view.text ≡ Some mix
     → AreSafeViews d m t record { text = plan c; name = [] } sent (r ∷ []) → ⊥
-not_safe c d m t sent r shown safe = grind (arith, nat_tests)
+not_safe c d m t sent r shown safe = grind (arith)
 
 pub lawful : (j : ℕ) → AreLawful (j + 1) record { text = plan (j + 1); name = [] } (log j)
 lawful j = record { text = texts_lawful j; name = names_lawful (j + 1) j }

@@ -1,14 +1,13 @@
 -- Lemmas: a run lies in one broadcast. A receiver knows only one bit of a broadcast, but any two neighbours of a run
 -- have one flag and were sent less than d slots apart, in whatever order and by whatever clock they came.
 use Rattle.std.proofs.Common.{arith, ◌≡◌, ℕ, List, [], ◌∷◌, sym, ◌∙◌, ◌+◌, ◌<◌, ◌≤◌, Bool, length, Option, Some, refl}
-use Rattle.std.proofs.Common.{subst, nat_eq, cond}
-use Rattle.std.proofs.lemmas.Bool.Decides.{nat_tests}
+use Rattle.std.proofs.Common.{subst, nat_eq, cond, nat_lt, IfSome, nat_cmp}
+use Rattle.std.specs.FinMap.{empty, get, get-empty, get-insert, insert}
 use Rattle.std.specs.List.{AllByRecursion}
 use Rattle.rds_encoder.specs.Plan.{Broadcast, Covers, HasNumber}
 use Rattle.rds_receiver.specs.Receipts.{Segment, segments}
 use Rattle.rds_safety.specs.Late.{CameFrom, Input}
 use Rattle.rds_safety.specs.Lawful.{HasFragment, HasOne, Kind, IsLawful, IsFragmentOf, names, texts}
-use Rattle.std.specs.Prelude.{nat_lt, IfSome}
 use Rattle.std.proofs.lemmas.Bool.{cond_both}
 use Rattle.rds_fields.specs.declared.message.Message.{Message}
 use Rattle.rds_encoder.specs.Spaced.{IsSpaced}
@@ -19,8 +18,6 @@ use Rattle.rds_safety.specs.Marks.{Mark, Nothing, Sends, marks}
 use Rattle.rds_safety.specs.Near.{IsHeard, IsHeardNear, IsUnmarked}
 use Rattle.rds_safety.proofs.Entries.{arrival, mark_sent, one_origin, AreFalling, IsPicked, all_picked, segments_fall}
 use Rattle.std.specs.Cmp.{unsigned_tied}
-use Rattle.std.specs.FinMap.{empty, get, get-empty, get-insert, insert}
-use Rattle.std.specs.Ordering.{nat_cmp}
 use Rattle.std.proofs.lemmas.Cmp.{nat_cmp_total}
 use Rattle.rds_assembly.specs.Body.{AreSegmentsOf, name_body, segment_of, text_body}
 use Rattle.rds_assembly.specs.Cells.{Cells}
@@ -89,7 +86,7 @@ all_like Alike on kind plan input b g (h ∷ older) l c p own near joined all =
     its.is.has.covers own.has.covers
     (sym its.is.has.flag ∙ sym joined.0.flag ∙ own.has.flag) in
     let near_too = on its.broadcast c b like near in
-    grind (arith, nat_tests, all_like Alike on kind plan input b h older)
+    grind (arith, all_like Alike on kind plan input b h older)
 
 -- if only the same is alike, they are of one broadcast
 pub all_of_one : (kind : Kind) (plan : List Broadcast) (input : Input) (l : ℕ) (b : Broadcast) (g : Segment)
@@ -157,7 +154,7 @@ module _ (laws : PlanLaws) (d m t : ℕ) (kind : Kind) (plan : List Broadcast) (
   joined_before : (f : Bool) (g : Segment) (gs : List Segment) → g.fragment.flag ≡ f → AreFalling g.slot gs
       → AreJoined (λ x y. x ≡ y) plan input (g ∷ run_before m f g.slot gs)
   joined_before f g [] e falls = tt
-  joined_before f g (h ∷ older) e falls = grind (arith, nat_tests, joined_before f h older)
+  joined_before f g (h ∷ older) e falls = grind (arith, joined_before f h older)
 
   run_lies : (n : ℕ) (gs : List Segment) → input.first + length input.heard ≡ n + 1 → AreFalling (n + 1) gs
       → AllByRecursion (IsOfAny kind plan input) gs → RunLiesInOne d t kind plan input (run m n gs)
@@ -179,7 +176,7 @@ module _ (laws : PlanLaws) (d m t : ℕ) (kind : Kind) (plan : List Broadcast) (
               g.fragment.flag g.slot older all.1),
         );
         past = hears.past g.slot its.slot its.from;
-        recent = hears.since g.slot its.slot its.from (grind (arith, nat_tests));
+        recent = hears.since g.slot its.slot its.from (grind (arith));
       })
       (λ _. tt)
 
@@ -216,7 +213,7 @@ pub cell_has : (P : ℕ → List ℕ → Type 0) (gs : List Segment)
     → AllByRecursion (λ (g : Segment). P g.fragment.address g.fragment.bytes) gs
     → (a : ℕ) (cell : List ℕ) → get (cells_of gs) a ≡ Some cell → P a cell
 cell_has P [] all a cell e = (let none = get-empty {X = List ℕ} nat_cmp a in absurd (cc))
-cell_has P (g ∷ older) all a cell e = grind (arith, nat_tests, cell_has P older all.1 a cell, get-put)
+cell_has P (g ∷ older) all a cell e = grind (arith, cell_has P older all.1 a cell, get-put)
 
 -- the segments are of a value
 abbrev pub AreParts : Kind → List ℕ → List Segment → Type 0
@@ -305,7 +302,7 @@ pub shown_on_air : (d t : ℕ) (kind : Kind) (IsWhole : Cells → List ℕ → T
     → IsService kind IsWhole → HasValues kind plan → RunLiesInOne d t kind plan input the_run
     → IsShown IsWhole (cells_of the_run) shown
     → IfSome shown (RunWasOnAir d t plan input the_run)
-shown_on_air d t kind IsWhole plan input the_run shown service values l is = grind (arith, nat_tests, was_on_air)
+shown_on_air d t kind IsWhole plan input the_run shown service values l is = grind (arith, was_on_air)
 
 -- one broadcast covers a slot
 one_covers : PlanLaws → (d : ℕ) (plan : List Broadcast) (k l : ℕ) (a b : Broadcast) (s : ℕ) → IsSpaced d plan
@@ -315,13 +312,13 @@ one_covers laws d plan k l a b s spaced p q u v =
 
 one_last : (input : Input) (the_run : List Segment) (r s : ℕ) → LastWasSentIn input the_run r
     → LastWasSentIn input the_run s → r ≡ s
-one_last input the_run r s p q = grind (arith, nat_tests, one_origin)
+one_last input the_run r s p q = grind (arith, one_origin)
 
 -- a run has one source
 pub one_source : PlanLaws → (d : ℕ) (plan : List Broadcast) (input : Input) (the_run : List Segment) (k l : ℕ)
     (a b : Broadcast) → IsSpaced d plan
     → IsSource plan input the_run k a → IsSource plan input the_run l b → (k ≡ l) × (a ≡ b)
-one_source laws d plan input the_run k l a b spaced p q = grind (arith, nat_tests, one_last, one_covers)
+one_source laws d plan input the_run k l a b spaced p q = grind (arith, one_last, one_covers)
 
 -- in one slot, the source of a run is at most the next one after that of another run
 not_far : PlanLaws → (d t : ℕ) (kind : Kind) (plan : List Broadcast) (x : Input) (x_run : List Segment) (y : Input)
@@ -330,7 +327,7 @@ not_far : PlanLaws → (d t : ℕ) (kind : Kind) (plan : List Broadcast) (x : In
     → IsSource plan x x_run n a → IsSource plan y y_run l b → l ≤ n + 1
 not_far laws d t kind plan x [] y y_run n l a b spaced u v p q = absurd p.sent
 not_far laws d t kind plan x (g ∷ older) y [] n l a b spaced u v p q = absurd q.sent
-not_far laws d t kind plan x (g ∷ g_older) y (h ∷ h_older) n l a b spaced u v p q = grind (arith, nat_tests, one_origin)
+not_far laws d t kind plan x (g ∷ g_older) y (h ∷ h_older) n l a b spaced u v p q = grind (arith, one_origin)
 
 -- two runs that lie in one broadcast each lie in the same one or in neighbours
 pub near_sources : PlanLaws → (d t : ℕ) (kind : Kind) (plan : List Broadcast) (x : Input) (x_run : List Segment)

@@ -1,9 +1,7 @@
 -- Lemmas: segments of a text with padding make this text whole, or nothing. Only places up to its carriage return
 -- count.
 use Rattle.std.proofs.Common.{◌≡◌, ◌+◌, ◌*◌, ◌/◌, ◌<◌, ◌≤◌, ℕ, List, ◌∷◌, length, slice_index, arith, ◌≢◌, ◌%◌, ◌∙◌, []}
-use Rattle.std.proofs.Common.{Option, sym, ap, inl, inr}
-use Rattle.std.specs.Prelude.{replicate}
-use Rattle.std.proofs.lemmas.Bool.Decides.{nat_tests}
+use Rattle.std.proofs.Common.{Option, sym, ap, inl, inr, replicate}
 use Rattle.std.proofs.lemmas.Grind.{common_steps, same_number_lists}
 use Rattle.std.proofs.lemmas.Simd.{get_or-chunk}
 use Rattle.std.proofs.lemmas.List.{get_or_past}
@@ -35,19 +33,19 @@ segment_long body a h = grind (arith, common_steps)
 
 -- the body of a text begins with the text
 pub text_below : (x : List ℕ) (i : ℕ) → i < length x → slice_index (text_body x) i ≡ slice_index x i
-text_below x i h = grind (arith, common_steps, nat_tests)
+text_below x i h = grind (arith, common_steps)
 
 -- behind a text of less than 64 bytes its body has a carriage return
 pub text_end : (x : List ℕ) → length x < 64 → slice_index (text_body x) (length x) ≡ 13
-text_end x h = grind (arith, common_steps, nat_tests)
+text_end x h = grind (arith, common_steps)
 
 -- the body of a text of less than 64 bytes ends with a whole segment
 pub text_long : (x : List ℕ) → length x < 64 → length (text_body x) ≡ 4 * (length x / 4) + 4
-text_long x h = grind (arith, common_steps, nat_tests)
+text_long x h = grind (arith, common_steps)
 
 -- a text of 64 bytes is its body
 pub text_full : (x : List ℕ) → length x ≡ 64 → text_body x ≡ x
-text_full x h = grind (arith, nat_tests)
+text_full x h = grind (arith)
 
 -- after a carriage return at the front come spaces
 past_return : (n k : ℕ) → 0 < k → k ≤ n → slice_index (13 ∷ replicate n 32) k ≡ 32
@@ -56,7 +54,7 @@ past_return n k pos h = grind (arith, common_steps)
 -- after the carriage return of a body come spaces
 pub text_past : (x : List ℕ) (i : ℕ) → length x < 64 → length x < i → i < length (text_body x)
     → slice_index (text_body x) i ≡ 32
-text_past x i h past within = grind (arith, common_steps, nat_tests, past_return)
+text_past x i h past within = grind (arith, common_steps, past_return)
 
 -- the bytes of a segment are below 256
 pub segment_fits : (body : List ℕ) (a k : ℕ) → a < segment_count body
@@ -134,7 +132,7 @@ segment_is_padded x p t is = record {
 wider_texts : (d : ℕ) (plan : List Broadcast) (log : List (Option Message))
     → IsLawful d texts plan (marks text_mark log)
     → IsLawful d padded_texts plan (marks text_mark log)
-wider_texts d plan log law = grind (arith, nat_tests, segment_is_padded)
+wider_texts d plan log law = grind (arith, segment_is_padded)
 
 pub wider : LawfulIsLawfulPadded
 wider d plans log law = record { text = wider_texts d plans.text log law.text; name = law.name }

@@ -1,7 +1,6 @@
 -- Lemmas: lawful plans make each slot safe for any number of receivers.
 use Rattle.std.proofs.Common.{◌+◌, ℕ, List, Option, slice_index_or, arith, ◌≡◌, ◌<◌, ◌≤◌, ◌==◌, Bool, true, false, []}
-use Rattle.std.proofs.Common.{◌∷◌, length, Some, refl, sym, ◌∙◌}
-use Rattle.std.specs.List.{All}
+use Rattle.std.proofs.Common.{◌∷◌, length, Some, refl, sym, ◌∙◌, All}
 use Rattle.rds_fields.specs.declared.message.Message.{Message}
 use Rattle.rds_assembly.specs.Whole.{IsWholeText, IsWholeName}
 use Rattle.rds_receiver.specs.Receipts.{name_fragment, text_fragment, Segment, segments}
@@ -24,7 +23,6 @@ use Rattle.rds_safety.specs.Confirmed.{ListensConfirmed, lateness_of_two, IsHear
 use Rattle.rds_safety.specs.Confirmed.{confirmed_input}
 use Rattle.rds_safety.proofs.Confirmed.{confirmed_listens, HasReceipts, confirmed_is_near, from_one_of_two}
 use Rattle.rds_safety.proofs.Confirmed.{name_receipts, own_kept, segment_is_confirmed, text_receipts}
-use Rattle.std.proofs.lemmas.Bool.Decides.{nat_tests}
 use Rattle.std.proofs.lemmas.Grind.{common_steps}
 use Rattle.rds_assembly.specs.Body.{name_body, segment_count, text_body, AreAllHeld, segment_of}
 use Rattle.rds_assembly.specs.Value.{IsName}
@@ -111,7 +109,7 @@ are_safe_late laws kind service m k t plans log receivers law all =
 
 -- a text has a segment
 pub one_segment : (x : List ℕ) → 0 < segment_count (text_body x)
-one_segment x = grind (arith, common_steps, nat_tests)
+one_segment x = grind (arith, common_steps)
 
 -- a name has two segments
 pub two_segments : (x : List ℕ) → IsName x → segment_count (name_body x) ≡ 2
@@ -136,7 +134,7 @@ last_since n a (h ∷ older) g falls is_in at = by (h.fragment.address == a) ref
     by : (same : Bool) → (h.fragment.address == a) ≡ same → (IsIn older g → IsLastSince a g.slot older)
         → IsLastSince a g.slot (h ∷ older)
     by true e before = search (arith, in_below)
-    by false e before = (let l = before (grind (arith, nat_tests)) in grind arith)
+    by false e before = (let l = before (grind (arith)) in grind arith)
 
 module _ (laws : PlanLaws) (w k m t s : ℕ) (kind : Kind) (sends : SendsItsBody kind) (pick : Message
     → Option Fragment) (of : Option Message → Mark)
@@ -182,7 +180,7 @@ module _ (laws : PlanLaws) (w k m t s : ℕ) (kind : Kind) (sends : SendsItsBody
           let flag = is_same_flag q.flag g.fragment.flag (theirs.0 ∙ sym mine.0) in
           let same : q.bytes ≡ g.fragment.bytes = (let at = l.address in cc) in
           let bytes = (bytes_eq-Decides q.bytes g.fragment.bytes).1 same in
-          (g.slot, rw l.last (grind (arith, nat_tests)))
+          (g.slot, rw l.last (grind (arith)))
 
   shown_twice : (IsWhole : Cells → List ℕ → Type 0) → IsService kind IsWhole
       → ((cells : Cells) → AreAllHeld (kind.body b.bytes) cells → IsWhole cells b.bytes)

@@ -1,6 +1,5 @@
 -- The laws about receivers that show only what they heard twice. Lists have the newest first.
-use Rattle.std.specs.Prelude.{◌≡◌, ◌+◌, ◌<◌, ◌≤◌, ℕ, List, Option, Some}
-use Rattle.std.specs.List.{All}
+use Rattle.std.specs.Prelude.{◌≡◌, ◌+◌, ◌<◌, ◌≤◌, ℕ, List, Option, Some, All}
 use Rattle.rds_fields.specs.declared.message.Message.{Message}
 use Rattle.rds_assembly.specs.Body.{segment_count, text_body}
 use Rattle.rds_encoder.specs.Plan.{Broadcast, HasNumber}

@@ -1,8 +1,7 @@
 -- When the views of receivers at the end of a slot are safe for the plans of a station (this project's own rule): each
 -- text or name shown was on air within the last d slots, the tags shown are of that text, and any two receivers show
 -- one broadcast or two that follow each other. Lists have the newest first.
-use Rattle.std.specs.Prelude.{◌≡◌, ◌+◌, ◌<◌, ◌≤◌, ◌⊎◌, ℕ, List, Option, Some, None, IfSome, length, take, drop}
-use Rattle.std.specs.List.{All}
+use Rattle.std.specs.Prelude.{◌≡◌, ◌+◌, ◌<◌, ◌≤◌, ◌⊎◌, ℕ, List, Option, Some, None, IfSome, length, take, drop, All}
 use Rattle.rds_fields.specs.declared.message.Message.{Message}
 use Rattle.rds_fields.specs.Tag.{PairFields, TagFields, end_of}
 use Rattle.rds_encoder.specs.Plan.{Broadcast, Covers}

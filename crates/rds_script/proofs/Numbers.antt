@@ -1,8 +1,7 @@
 -- Numbers with one space between each and the next are read one way.
-use Rattle.std.proofs.Common.{◌≡◌, ◌≢◌, ◌<◌, ◌≤◌, ℕ, Bor, List, [], ◌∷◌, ◌++◌, Option, get_or, length}
-use Rattle.std.proofs.Common.{length-append, append_assoc, refl, sym, ap, ◌∙◌, subst, arith}
+use Rattle.std.proofs.Common.{◌≡◌, ◌≢◌, ◌<◌, ◌≤◌, ℕ, Bor, List, [], ◌∷◌, ◌++◌, Option, get_or, length, length-append}
+use Rattle.std.proofs.Common.{append_assoc, refl, sym, ap, ◌∙◌, subst, arith, IfNone, IfSome, MatchOption}
 use Rattle.std.proofs.lemmas.Grind.{common_steps}
-use Rattle.std.specs.Prelude.{IfNone, IfSome, MatchOption}
 use Rattle.std.proofs.lemmas.List.Elements.{All-head, All-tail}
 use Rattle.std.specs.Str.Parse.{AllDigits}
 use Rattle.rds_assembly.specs.Body.{space}
@@ -22,11 +21,7 @@ same_cut : (first other rest others : List ℕ) → HasNoSpace first → HasNoSp
     → first ++ space ∷ rest ≡ other ++ space ∷ others → (first ≡ other) × (rest ≡ others)
 same_cut [] [] rest others p q e = (refl, (cc))
 same_cut (b ∷ first) (c ∷ other) rest others p q e =
-    grind (
-      arith,
-      same_cut first other rest others (All-tail (λ b. b ≢ space) b first p)
-          (All-tail (λ b. b ≢ space) c other q),
-    )
+    grind (arith, same_cut first other rest others (All-tail (λ b. b ≢ space) b first p) (All-tail (λ b. b ≢ space) c other q))
 same_cut [] (b ∷ other) rest others p q e = absurd (All-head (λ b. b ≢ space) b other q (cc))
 same_cut (b ∷ first) [] rest others p q e = absurd (All-head (λ b. b ≢ space) b first p (cc))
 

@@ -34,5 +34,5 @@ pub same_events : TextIsReadOneWay
     → AreRows config n records events → AreRows config other_n records other → events ≡ other
 same_events one config n k [] [] [] p q = refl
 same_events one config n k (row ∷ records) (e ∷ events) (f ∷ other) p q =
-    search (same_events one config n k records events other p.2 q.2, same_event)
+    search (arith, same_events one config n k records events other p.2 q.2, same_event)
 same_events one config n k _ _ _ p q = grind arith

@@ -1,9 +1,8 @@
 -- What was on air, by periods of slots, and how far back a search sees it.
 use Rattle.std.proofs.Common.{◌≡◌, ◌∙◌, ◌∷◌, ◌++◌, ◌+◌, ◌-◌, ◌<◌, ◌||◌, [], ℕ, zero, suc, Bool, true, false, List, None}
-use Rattle.std.proofs.Common.{Option, Some, ap, append_assoc, append-nil, arith, drop, get_or, length, refl}
-use Rattle.std.proofs.Common.{cond, replicate, set, sym, take}
+use Rattle.std.proofs.Common.{Option, Some, ap, append_assoc, append-nil, arith, drop, get_or, length, refl, cond}
+use Rattle.std.proofs.Common.{replicate, set, sym, take, take_while}
 use Rattle.std.specs.List.{prefix_len}
-use Rattle.std.specs.Prelude.{take_while}
 use Rattle.std.proofs.lemmas.List.{take-append-drop, take_all, take_more}
 use Rattle.std.proofs.lemmas.List.Sums.{take_while-cons}
 use Rattle.std.proofs.lemmas.Slice.Eq.{bytes_eq-Decides}
@@ -26,6 +25,12 @@ use Rattle.rds_script.specs.declared.airs.Airs.{Airs}
 use Rattle.rds_script.specs.declared.airs.Lookback.{Lookback}
 use Rattle.rds_script.specs.declared.airs.Lookback.TheVariants.{Ever, Lately, Texts}
 use Rattle.rds_script.specs.declared.airs.Period.{Period}
+use Rattle.rds_receiver.specs.NotShown.{AreWhys, whys_of}
+use Rattle.rds_receiver.specs.ReceiverAt.{WhereReceiverStands}
+use Rattle.rds_receiver.specs.declared.why.Whys.{Whys}
+use Rattle.rds_safety.specs.Late.{Input}
+use Rattle.rds_world.specs.WorldAt.{HasHeard, tuned_to}
+use Rattle.rds_receiver.specs.declared.receiver.Receiver.{Receiver}
 
 -- a text is the same as no other
 pub one_text : (text other : Option (List ℕ)) → is_same_text text other ≡ true → text ≡ other
@@ -83,16 +88,13 @@ more_of_period : (lookback : Lookback) (view air : ShownView) (n more left : ℕ
     ≡ parts_among view (air ∷ reached lookback left air.text older)
 more_of_period lookback view air n zero left older is = (let same : left ≡ n = omega arith in rw same refl)
 more_of_period lookback view air (suc n) (suc more) left older is =
-    either_again (same_parts view air) (parts_among view (reached lookback n air.text (replicate more air ++ older)))
-    ∙ more_of_period lookback view air n more left older (omega arith)
-more_of_period Lately view air zero (suc more) left older is =
-    (let none : left ≡ 0 = omega arith in rw (none, seen_lately 0 air.text older) refl)
+    search (arith, more_of_period lookback view air n more left older (omega arith), either_again)
+more_of_period Lately view air zero (suc more) left older is = grind (arith, seen_lately)
 more_of_period Texts view air zero (suc more) left older is =
     rw (same_text air.text) (either_again (same_parts view air) (parts_among view (reached Texts 0 air.text
     (replicate more air ++ older))) ∙ more_of_period Texts view air 0 more left older (omega arith))
 more_of_period Ever view air zero (suc more) left older is =
-    either_again (same_parts view air) (parts_among view (reached Ever 0 air.text (replicate more air ++ older)))
-    ∙ more_of_period Ever view air 0 more left older (omega arith)
+    search (arith, more_of_period Ever view air 0 more left older (omega arith), either_again)
 
 -- a search that sees the last slot of a period sees the period, and goes on before it
 pub period_seen : (lookback : Lookback) (view air : ShownView) (n more : ℕ) (text : Option (List ℕ))
@@ -100,8 +102,7 @@ pub period_seen : (lookback : Lookback) (view air : ShownView) (n more : ℕ) (t
     → (n ≡ 0 → goes_on lookback text air.text ≡ true)
     → parts_among view (reached lookback n text ((air ∷ replicate more air) ++ older)) ≡ either (same_parts view air)
     (parts_among view (reached lookback (n - 1 - more) air.text older))
-period_seen lookback view air zero more text older on =
-    rw (on refl) (more_of_period lookback view air 0 more _ older (omega arith))
+period_seen lookback view air zero more text older on = grind (arith, more_of_period)
 period_seen lookback view air (suc n) more text older on = more_of_period lookback view air n more _ older (omega arith)
 
 -- one that does not go on sees nothing more
@@ -251,3 +252,12 @@ ever_before view config events a before stand were = grind (arith, stays_as)
 pub all_lately : (lately for_text ever : Parts) → lately.text ≡ true → lately.name ≡ true → lately.one ≡ true
     → lately.two ≡ true → airings_by lately lately lately ≡ airings_by lately for_text ever
 all_lately lately for_text ever text name one two = rw (text, name, one, two) refl
+
+-- ---- why nothing is shown follows from the input that was heard
+
+-- the reasons of a receiver are those of its input
+pub whys_heard : (config : Config) (input : Input) (r : Receiver) (whys : Whys) → HasHeard config input r
+    → WhereReceiverStands r (λ t groups. AreWhys t groups whys)
+    → whys ≡ whys_of (tuned_to config input) input.heard
+whys_heard config input r whys has are =
+    are (tuned_to config input) has.groups has.stands ∙ ap (whys_of (tuned_to config input)) (sym has.spelled)

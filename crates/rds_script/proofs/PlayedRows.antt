@@ -1,19 +1,19 @@
 -- How a station goes on by a row, and why a record is no row.
-use Rattle.std.proofs.Common.{◌≡◌, ◌⊎◌, ◌<◌, ◌≤◌, ◌+◌, ◌∷◌, ◌++◌, [], ℕ, suc, List, None, Option, Some}
-use Rattle.std.proofs.Common.{ap, arith, inl, length, refl, subst, sym}
-use Rattle.std.specs.Prelude.{Err, Ok, OnOk, Result}
+use Rattle.std.proofs.Common.{◌≡◌, ◌⊎◌, ◌<◌, ◌≤◌, ◌+◌, ◌∷◌, ◌++◌, [], ℕ, suc, List, None, Option, Some, ap, arith, inl}
+use Rattle.std.proofs.Common.{length, refl, subst, sym, Err, Ok, OnOk, Result, ◌≢◌, Bool, false, true, MatchBool}
+use Rattle.std.proofs.Common.{reverse}
 use Rattle.rds_world.specs.Event.{Event}
 use Rattle.rds_world.specs.State.{distance}
 use Rattle.rds_receiver.specs.Shown.{ShownView}
-use Rattle.rds_script.proofs.Changes.{changes_same}
-use Rattle.rds_script.proofs.AiringLines.{compared_alike}
+use Rattle.rds_script.proofs.OneOutcome.{changes_same, compared_alike}
 use Rattle.rds_view_lines.specs.NoChange.{view_of_none}
 use Rattle.rds_world.specs.Slots.{input_of}
 use Rattle.rds_world.specs.WorldAt.{IsViewOfInput, ShowsStill, tuned_to}
-use Rattle.rds_script.specs.Outcomes.{AreOutcomes, IsOutcome, Outcome, compared_lines, lines_of}
-use Rattle.rds_script.specs.Outcomes.{newest_views, slot_lines, view_at}
+use Rattle.rds_script.specs.Outcomes.{AreOutcomes, IsOutcome, Outcome, compared_lines, lines_of, newest_views}
+use Rattle.rds_script.specs.Outcomes.{slot_lines, view_at}
 use Rattle.rds_script.specs.Inside.Compared.{HasRoom}
-use Rattle.rds_script.specs.Inside.Player.{AppendsRow, HasWatched, IsBegun, Played, PlayerStandsAt}
+use Rattle.rds_script.specs.Inside.Player.{AppendsRow, HasWatched, IsBegun, Played, PlayerStandsAt, PlayedSoFar}
+use Rattle.rds_script.specs.Inside.Player.{PlaysNext, ScriptStandsAt, played_by}
 use Rattle.rds_script.specs.Inside.Watched.{AreKept, WatchedStandsAt, WereShown, views_kept}
 use Rattle.rds_script.specs.declared.player.Player.{Player}
 use Rattle.rds_script.specs.declared.watched.Watched.{Watched}
@@ -26,6 +26,22 @@ use Rattle.rds_script.proofs.Receptions.{same_receptions}
 use Rattle.rds_script.specs.declared.form.Form.{Form}
 use Rattle.rds_world.specs.declared.event.TheConstants.{MOST_RECEIVERS}
 use Rattle.rds_world.specs.declared.world.Config.{Config}
+use Rattle.std.proofs.lemmas.Bool.Decides.{nat_tests}
+use Rattle.rds_io.specs.Told.{Traffic}
+use Rattle.rds_io.specs.Waits.{IsLost, Waits}
+use Rattle.rds_io.proofs.Waiting.{waits_more, wrote_all}
+use Rattle.rds_script.specs.Play.{HasAllRecords, HasRecords, Plays, Reading, RowsWrite, WroteRows, with_form}
+use Rattle.rds_io.specs.declared.fault.LogFault.{LogFault}
+use Rattle.rds_io.specs.declared.fault.LogFault.TheVariants.{BadRow, Memory, Read, TooLong, Write}
+use Rattle.rds_script.specs.declared.play.Playing.{Playing}
+use Rattle.rds_script.specs.declared.records.Records.{Records}
+use Rattle.std.proofs.lemmas.Grind.{reverse_onto}
+use Rattle.csv.proofs.ReadFacts.{rows-more}
+use Rattle.csv.specs.Reading.{ReadRecord, default_config, is_flexible, strip_bom, took_first}
+use Rattle.csv.specs.declared.parser.State.TheVariants.{StartRecord}
+use Rattle.csv.specs.declared.reader.Reader.{Reader}
+use Rattle.rds_script.specs.Inside.FailureFlag.{asked_bytes}
+use Rattle.rds_script.specs.declared.failure_flag.FailureFlag.{FailureFlag}
 
 -- a record, an event and an outcome for each slot
 pub as_many_rows : (k : Config) (receivers : ℕ) (records : List Record) (events : List Event)
@@ -120,7 +136,7 @@ pub plays_on : {T E : Type 0} (r : Result T E) (before now : Player) (played : P
     ++ compared_lines played.config before.slot (length o.views) e s.events kept o.views)))
     → OnOk r (AppendsRow now row old new played)
 plays_on (Err why) before now played s receivers kept w row e old new form config slot watched allowed rows says same
-    taken stands outcome = tt
+    taken stands outcome = grind (arith)
 plays_on (Ok done) before now played s receivers kept w row e old new form config slot watched allowed rows says same
     taken stands (o, is, views, gave) = (
       slot_lines played.form played.config before.slot e s.events kept o ++ compared_lines played.config before.slot
@@ -176,3 +192,120 @@ pub nothing_yet : (config : Config) (i : ℕ) (kept : List ShownView) → view_a
 nothing_yet config i kept nothing =
     subst (IsViewOfInput config (input_of (distance config) i [])) (sym nothing) record
     { groups = []; spelled = refl; is = view_of_none (tuned_to config (input_of (distance config) i [])) }
+
+-- ---- how a script is played on by a record, and what is left at each end
+
+-- a reader that gave records: the script has them
+pub has_records : {R : Type 0} {g h : _} (remaining : R → Option (List ℕ)) (known : Option (List ℕ))
+    (s : Records R g h) (records : List Record) → ScriptStandsAt remaining known s records → HasRecords known records
+has_records remaining known s records stands = grind arith
+
+-- what a player played, its rows write
+rows_write : (p : Player) (played : Played) → PlayerStandsAt p played
+    → RowsWrite (with_form played.form played.config) played.records played.written
+rows_write p played s = grind arith
+
+-- the same output, of which another part waits
+pub waits_now : (how : Playing) (p : Player) (records : List Record) (w v : Traffic) (waiting now : List ℕ)
+    (played : PlayedSoFar how p records w waiting) → Waits v now played.total → PlayedSoFar how p records v now
+waits_now how p records w v waiting now played waits = search
+
+wrote_rows : {R : Type 0} {g h : _} (remaining : R → Option (List ℕ)) (how : Playing) (known : Option (List ℕ))
+    (w : Traffic) (waiting : List ℕ) (s : Records R g h) (p : Player) (records : List Record)
+    → ScriptStandsAt remaining known s records → PlayedSoFar how p records w waiting → waiting ≡ []
+    → WroteRows how known w records
+wrote_rows remaining how known w waiting s p records stands played none =
+    grind (arith, has_records, rows_write, wrote_all)
+
+-- what a player played is where its next record begins
+abbrev pub where_next : (how : Playing) (p : Player) (records : List Record) (w : Traffic) (waiting : List ℕ)
+    → PlayedSoFar how p records w waiting → Played
+where_next how p records w waiting played = played_by how played.receivers records played.total
+
+-- the lines of one more row wait
+pub played_on : {R : Type 0} {g h : _} (remaining : R → Option (List ℕ)) (ReadFailed : Type 0) (how : Playing)
+    (known : Option (List ℕ)) (s : Records R g h) (p now : Player) (row : Record) (number : ℕ) (records : List Record)
+    (w : Traffic) (waiting more : List ℕ) (result : Result Bool LogFault)
+    → (played : PlayedSoFar how p records w waiting)
+    → PlaysNext remaining ReadFailed known s now row number waiting more (where_next how p records w waiting played)
+    result → result ≡ Ok true
+    → ScriptStandsAt remaining known s (row ∷ records) × PlayedSoFar how now (row ∷ records) w more
+played_on remaining ReadFailed how known s p now row number records w waiting more result played next is =
+    grind (arith, nat_tests, waits_more)
+
+-- no row was played
+pub not_more : (more : Bool) (result : Result Bool LogFault) → result ≡ Ok more → more ≡ false → result ≢ Ok true
+not_more more result is none same = cc
+
+-- the script has no more records
+pub ends_all : {R : Type 0} {g h : _} (remaining : R → Option (List ℕ)) (how : Playing) (most : ℕ) (r : Reading)
+    (w : Traffic) (waiting : List ℕ) (s : Records R g h) (p : Player) (records : List Record)
+    → ScriptStandsAt remaining r.known s records → PlayedSoFar how p records w waiting → waiting ≡ []
+    → length records < most → HasAllRecords r.known records → Plays how most r w (Ok tt)
+ends_all remaining how most r w waiting s p records stands played none fewer all = search wrote_rows
+
+-- the next record is not a row, or it was not read
+pub ends_by_fault : {R : Type 0} {g h : _} (remaining : R → Option (List ℕ)) (how : Playing) (most : ℕ) (r : Reading)
+    (w before : Traffic) (left : List ℕ) (s now : Records R g h) (p after : Player) (row : Record)
+    (records : List Record) (waiting more : List ℕ) (turn : ℕ) (fault : LogFault)
+    → ScriptStandsAt remaining r.known s records → PlayedSoFar how p records w left → left ≡ []
+    → length records ≡ turn → turn < most → (played : PlayedSoFar how p records before waiting)
+    → PlaysNext remaining r.Failed r.known now after row (turn + 1) waiting more
+    (where_next how p records before waiting played) (Err fault) → Plays how most r w (Err fault)
+ends_by_fault remaining how most r w before left s now p after row records waiting more turn
+    (BadRow n) stands wrote none number fewer played next = (
+      record {
+        records = records;
+        bad = row;
+        wrote = wrote_rows remaining how r.known w left s p records stands wrote none;
+        begins = next.begins;
+        none = next.none;
+        number = grind arith;
+      },
+      grind arith,
+    )
+ends_by_fault remaining how most r w before left s now p after row records waiting more turn Read stands wrote none
+    number fewer played next =
+    (records, wrote_rows remaining how r.known w left s p records stands wrote none, omega arith, next)
+ends_by_fault remaining how most r w before left s now p after row records waiting more turn Memory stands wrote none
+    number fewer played next =
+    (records, wrote_rows remaining how r.known w left s p records stands wrote none, omega arith)
+ends_by_fault remaining how most r w before left s now p after row records waiting more turn _ stands wrote none
+    number fewer played next = grind (arith)
+
+-- the script has as many records as may be
+pub ends_too_long : {R : Type 0} {g h : _} (remaining : R → Option (List ℕ)) (how : Playing) (most : ℕ) (r : Reading)
+    (w : Traffic) (waiting : List ℕ) (s : Records R g h) (p : Player) (records : List Record)
+    → ScriptStandsAt remaining r.known s records → PlayedSoFar how p records w waiting → waiting ≡ []
+    → length records ≡ most → Plays how most r w (Err TooLong)
+ends_too_long remaining how most r w waiting s p records stands played none number = search wrote_rows
+
+-- the writer failed at the lines that waited
+pub ends_by_write : {R : Type 0} {g h : _} (remaining : R → Option (List ℕ)) (how : Playing) (most : ℕ) (r : Reading)
+    (w v : Traffic) (waiting : List ℕ) (s : Records R g h) (p : Player) (records : List Record)
+    → ScriptStandsAt remaining r.known s records → length records ≤ most
+    → (played : PlayedSoFar how p records w waiting) → IsLost v played.total → Plays how most r v (Err Write)
+ends_by_write remaining how most r w v waiting s p records stands within played lost = grind arith
+
+-- ---- how the reader of a script goes on by a record
+
+-- the reader stands at one record more after it read one
+pub next_stands : {R : Type 0} {g h : _} (remaining : R → Option (List ℕ)) (old new : Reader (FailureFlag R g h))
+    (found : Bool) (fields : List (List ℕ)) (known : Option (List ℕ)) (records : List Record)
+    → ScriptStandsAt remaining known record { reader = old } records
+    → ReadRecord (asked_bytes remaining) old new found fields → took_first new ≡ true
+    → is_flexible new ≡ is_flexible old
+    → MatchBool found (ScriptStandsAt remaining known record { reader = new } (fields ∷ records))
+    (HasAllRecords known records)
+next_stands remaining old new true fields known records s read first flexible = record {
+  plain = cc;
+  flexible = cc;
+  ready = inl first;
+  config = cc;
+  gave = λ script k.
+      let (rest, source, upto) = s.gave script k in
+      let more = rows-more (asked_bytes remaining) old new fields default_config StartRecord (strip_bom script) rest
+      (reverse records) s.config source upto.reached read in
+      (more.0, more.1, record { reached = rw (reverse_onto records fields []) more.2 });
+}
+next_stands remaining old new false fields known records s read first flexible = grind arith

@@ -3,7 +3,6 @@ use Rattle.std.proofs.Common.{◌≡◌, ◌<◌, ◌≤◌, ◌∙◌, ◌++◌
 use Rattle.std.proofs.Common.{arith, drop, get_or, length, inl, inr, length-append, refl, subst, sym, take}
 use Rattle.std.proofs.lemmas.List.{append-nil, length-take-le, take-append-drop}
 use Rattle.std.proofs.lemmas.Bool.{cases_lt}
-use Rattle.std.proofs.lemmas.Bool.Decides.{nat_tests}
 use Rattle.std.proofs.lemmas.Int.Digits.{digits_more, digits_value-lt, digits_value_more}
 use Rattle.std.proofs.Math.Nat.{pow-le-pow_right}
 use Rattle.std.specs.Char.{IsAsciiHexdigit, IsNotAsciiHexdigit, digit_value}
@@ -145,12 +144,12 @@ digit_cut text digits rest n within are ends first later = record {
     front (b ∷ text) (suc n) within digits =
         let more = front text n (omega arith) (λ k below. digits (suc k) (omega arith)) in
         let first = digits 0 (omega arith) in
-        (grind (arith, nat_tests), more)
+        (grind (arith), more)
 
     back : (text : List ℕ) (n : ℕ) → n ≤ length text → (n < length text → IsNotAsciiHexdigit (get_or text n 0))
         → HasNoDigitFirst (drop n text)
     back [] zero within ends = tt
-    back (b ∷ text) zero within ends = (let first = ends (omega arith) in grind (arith, nat_tests))
+    back (b ∷ text) zero within ends = (let first = ends (omega arith) in grind (arith))
     back [] (suc n) within ends = absurd (omega arith)
     back (b ∷ text) (suc n) within ends = back text n (omega arith) (λ below. ends (omega arith))
 

@@ -1,7 +1,6 @@
 //! What a station has on air, and what it had before.
 ghost use Rattle.std.specs.Prelude.{◌≡◌, ◌↔◌, ◌≤◌, ◌<◌, ◌+◌, ◌++◌, ◌∷◌, [], ℕ, ◌-◌, ◌^◌, IfOk, List, None, OnOk};
-ghost use Rattle.std.specs.Prelude.{length, true};
-ghost use Rattle.std.specs.Option.{option_copied};
+ghost use Rattle.std.specs.Prelude.{length, true, option_copied};
 ghost use Rattle.rds_receiver.specs.Borrowed.{view_of};
 ghost use Rattle.rds_view_lines.specs.KeptView.{view_kept};
 ghost use Rattle.rds_view_lines.specs.Output.{air_prefix, change};

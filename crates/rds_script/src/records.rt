@@ -66,7 +66,7 @@ impl<R: TellingRead> Records<R> {
     /// # Errors
     ///
     /// `Read` if a read of the reader failed, and `Memory` if not.
-    #[tactic(auto, using(crate::proofs::ReadRecords::next_stands))]
+    #[tactic(auto, using(crate::proofs::PlayedRows::next_stands))]
     pub(crate) fn next(&mut self, row: &mut ByteRecord) -> Result<bool, LogFault>
         ensures found { (known : Option (List ℕ)) (records : List Record)
             → ScriptStandsAt R.remaining known self.old records

@@ -3,9 +3,8 @@
 -- says why, if that is asked for. Before the first slot nothing is shown. This is the project's own format. A list of
 -- displays has the newest first, so the slot of a display is the number of displays behind it.
 use Rattle.std.specs.Prelude.{◌-◌, ◌==◌, ◌&&◌, ◌++◌, [], ◌∷◌, ℕ, Bool, true, false, List, Option, Some, None, codes}
-use Rattle.std.specs.Prelude.{decimal, length, option_map, slice_get, if◌then◌else◌}
+use Rattle.std.specs.Prelude.{decimal, length, option_map, slice_get, if◌then◌else◌, bytes_eq}
 use Rattle.std.specs.Option.{option_eq}
-use Rattle.std.specs.Str.{bytes_eq}
 use Rattle.rds_charset.specs.Printed.{printed}
 use Rattle.rds_receiver.specs.Run.{is_same}
 use Rattle.rds_receiver.specs.Shown.{ShownView}

@@ -1,7 +1,6 @@
 -- The program's types for the beginning of an output line and for the parts of a view, with the content of a part and
 -- its line.
-use Rattle.std.specs.Prelude.{ℕ, Bool, false, List, Option}
-use Rattle.std.specs.Option.{option_copied}
+use Rattle.std.specs.Prelude.{ℕ, Bool, false, List, Option, option_copied}
 use Rattle.rds_receiver.specs.Borrowed.{borrowed_tag}
 use Rattle.rds_receiver.specs.Shown.{IsShortTag, IsShortText, ShownView}
 use Rattle.rds_receiver.specs.declared.why.WhyNone.{WhyNone}

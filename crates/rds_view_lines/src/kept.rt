@@ -1,6 +1,5 @@
 //! A copy of a receiver's view.
-ghost use Rattle.std.specs.Prelude.{◌≡◌, ◌≤◌, length};
-ghost use Rattle.std.specs.Option.{option_copied};
+ghost use Rattle.std.specs.Prelude.{◌≡◌, ◌≤◌, length, option_copied};
 ghost use Rattle.rds_receiver.specs.Borrowed.{borrowed_tag};
 ghost use Rattle.rds_receiver.specs.Shown.{IsShortTag, IsShortText};
 ghost use Rattle.rds_view_lines.specs.KeptView.{tag_kept, text_kept};

@@ -1,7 +1,6 @@
 -- What a page passes to the program, and what it gets back.
-use Rattle.std.specs.Prelude.{◌≡◌, ◌==◌, ℕ, List, [], Some, length, take}
+use Rattle.std.specs.Prelude.{◌≡◌, ◌==◌, ℕ, List, [], Some, length, take, IsUtf8}
 use Rattle.std.specs.List.{slice_split}
-use Rattle.std.specs.Str.{IsUtf8}
 use Rattle.rds_io.specs.Told.{PutsNothing, Traffic}
 use Rattle.rds_program.specs.Run.{RunsFrom, RunsWords}
 

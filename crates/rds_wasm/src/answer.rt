@@ -1,6 +1,5 @@
 //! The program over arguments that are lines of one text.
-ghost use Rattle.std.specs.Prelude.{◌≡◌, IfOk, map};
-ghost use Rattle.std.specs.Str.{IsUtf8};
+ghost use Rattle.std.specs.Prelude.{◌≡◌, IfOk, map, IsUtf8};
 ghost use Rattle.rds_io.specs.Told.{PutsNothing, traffic};
 ghost use Rattle.rds_wasm.specs.Page.{PagePrints, Refuses, words_in};
 

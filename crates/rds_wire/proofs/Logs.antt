@@ -1,11 +1,11 @@
 -- The output of `encode` is a log, and its slots are the groups that were sent.
+use Rattle.std.specs.Char.{encode_utf8}
 use Rattle.std.proofs.Common.{◌≡◌, ◌≢◌, ◌<◌, ◌-◌, ◌/◌, ◌%◌, ◌==◌, ◌++◌, ◌∷◌, [], ℕ, zero, suc, decimal, Bool, true}
 use Rattle.std.proofs.Common.{false, not, cond, List, None, Some, arith, codes, length, refl, subst, get_or, ◌+◌, ◌∙◌}
-use Rattle.std.proofs.Common.{Option, append_assoc, append-nil, ap, inl, inr, sym, slice_index}
-use Rattle.std.specs.Char.{encode_utf8}
+use Rattle.std.proofs.Common.{Option, append_assoc, append-nil, ap, inl, inr, sym, slice_index, slice_get}
+use Rattle.std.proofs.Common.{All, nat_le}
 use Rattle.std.specs.Fmt.{digits, digits_onto, digit_glyph}
-use Rattle.std.specs.List.{list_all, slice_get, AllByRecursion}
-use Rattle.std.specs.Prelude.{All, nat_le}
+use Rattle.std.specs.List.{list_all, AllByRecursion}
 use Rattle.std.proofs.lemmas.Bool.Decides.{nat_tests}
 use Rattle.std.proofs.lemmas.List.Elements.{All-append, All-cons, All-nil}
 use Rattle.std.proofs.lemmas.List.Folds.{list_all_at}
@@ -31,7 +31,7 @@ use Rattle.rds_lines.specs.OneLog.{says_group}
 use Rattle.rds_lines.specs.LogLines.{IsLine, Line, content_length, line_feed, text_of}
 use Rattle.rds_fields.specs.TagGroup.{MayCarryTags, exchanged, exchanged_in}
 use Rattle.rds_fields.proofs.Exchange.{exchanged_in_twice}
-use Rattle.rds_log.proofs.FilledText.{more_text}
+use Rattle.rds_log.proofs.Filled.{more_text}
 use Rattle.rds_receiver.specs.Shown.{ShownView}
 use Rattle.rds_receiver.specs.declared.why.Whys.{Whys}
 use Rattle.rds_script.specs.Outcomes.{AreOutcomes, Outcome, block_digits, lines_of, log_line, receiver_changes}

@@ -1,9 +1,7 @@
 -- The lines of the output of `decode`, read back: what they show in a slot is what the display shows there.
 use Rattle.std.proofs.Common.{◌≡◌, ◌≢◌, ◌⊎◌, ◌<◌, ◌≤◌, ◌^◌, ◌++◌, ◌∷◌, [], ◌∙◌, ℕ, zero, suc, Bool, true, false, List}
 use Rattle.std.proofs.Common.{Option, None, Some, append_assoc, ap, arith, codes, decimal, inl, inr, length, refl}
-use Rattle.std.proofs.Common.{subst, sym, get_or}
-use Rattle.std.specs.List.{Contains}
-use Rattle.std.specs.Prelude.{All, IfSome}
+use Rattle.std.proofs.Common.{subst, sym, get_or, Contains, All, IfSome}
 use Rattle.std.proofs.lemmas.Bool.Decides.{nat_tests}
 use Rattle.std.proofs.lemmas.Fmt.{decimal_injective}
 use Rattle.std.proofs.lemmas.List.Elements.{All-nil, All-head, All-tail}

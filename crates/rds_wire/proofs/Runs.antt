@@ -1,6 +1,7 @@
 -- The wire laws for runs of the program.
 use Rattle.std.proofs.Common.{ℕ, List, Option, inl, inr, refl, ◌≡◌, ◌⊎◌, ◌∙◌, ◌++◌, ◌∷◌, ◌^◌, [], Some, ap}
-use Rattle.std.proofs.Common.{append_assoc, arith, codes, decimal, get_or, subst, sym}
+use Rattle.std.proofs.Common.{append_assoc, arith, codes, decimal, get_or, subst, sym, Contains, All, Bool, Err, Ok}
+use Rattle.std.proofs.Common.{Result, false, true}
 use Rattle.rds_io.specs.Told.{traffic, Failed, Traffic}
 use Rattle.rds_program.specs.Run.{listening, EndsWith, PutsLine, auditing_of, decoding_of, done, script_in}
 use Rattle.rds_program.specs.Run.{verdict_status}
@@ -8,8 +9,6 @@ use Rattle.rds_program.specs.RunsBy.{task_by}
 use Rattle.rds_wire.specs.Program.{WhatIsAskedForRan, Ran, WhatTheProgramDecodesIsPrinted, WhatTheProgramEncodesIsSafe}
 use Rattle.rds_wire.specs.Program.{WhatTheProgramPassesIsSafe, over}
 use Rattle.std.specs.Io.KnownBytes.{Appends}
-use Rattle.std.specs.List.{Contains}
-use Rattle.std.specs.Prelude.{All, Bool, Err, Ok, Result, false, true}
 use Rattle.std.proofs.lemmas.List.Elements.{All-cons}
 use Rattle.rds_block.specs.declared.group.Group.{Group}
 use Rattle.rds_cli.specs.declared.request.Programme.{Programme}
@@ -28,8 +27,8 @@ use Rattle.rds_lines.specs.OneLog.{same_lines, same_log}
 use Rattle.rds_lines.specs.Outputs.{StopsBetween, WroteLines}
 use Rattle.rds_log.specs.declared.audit_log.Auditing.{Auditing}
 use Rattle.rds_log.specs.declared.decode_log.Decoding.{Decoding}
-use Rattle.rds_log.proofs.FilledText.{more_text}
-use Rattle.rds_lines.proofs.WholeBytes.{read_and_left, read_whole}
+use Rattle.rds_log.proofs.Filled.{more_text}
+use Rattle.rds_lines.proofs.Runs.{read_and_left, read_whole}
 use Rattle.rds_script.specs.Play.{Plays, WroteRows, with_form}
 use Rattle.rds_script.specs.Rows.{Record}
 use Rattle.rds_script.specs.declared.form.Form.TheVariants.{Log}

@@ -22,7 +22,7 @@ use Rattle.rds_receiver.specs.declared.why.Whys.{Whys}
 use Rattle.rds_view_lines.specs.Output.{Display, newest}
 use Rattle.rds_view_lines.specs.ViewParts.{line_in, part_content, Part}
 use Rattle.rds_log.specs.LogWrites.{AreDisplays}
-use Rattle.rds_log.proofs.Views.{newest_view}
+use Rattle.rds_log.proofs.Decodes.{newest_view}
 use Rattle.rds_wire.specs.Mixes.{AMixIsShown}
 use Rattle.rds_wire.proofs.Reading.{In, are_lines, contains_from_in, in_older, in_slot, is_same_part, lines_of}
 use Rattle.rds_wire.proofs.Reading.{AreTagsUpTo, IsContentOf, shown_safely}

@@ -1,7 +1,6 @@
 -- The wire laws.
 use Rattle.std.proofs.Common.{◌≡◌, ◌<◌, ◌+◌, ◌-◌, ◌∷◌, [], ◌∙◌, ℕ, suc, true, List, Option, Some, ap, arith, length}
-use Rattle.std.proofs.Common.{length-append, replicate, refl, ◌^◌, None, inl, inr, map, subst, sym}
-use Rattle.std.specs.List.{All, Contains}
+use Rattle.std.proofs.Common.{length-append, replicate, refl, ◌^◌, None, inl, inr, map, subst, sym, All, Contains}
 use Rattle.std.proofs.lemmas.List.{length-replicate, length-map}
 use Rattle.std.proofs.lemmas.List.Elements.{All-append, All-from_get_or, All-get_or, All-replicate, All-cons, All-nil}
 use Rattle.rds_assembly.specs.Body.{name_body, space}

@@ -1,8 +1,8 @@
 -- Worked rows: how a log is received, and what is safe to show. Those that end in ⊥ say no: so a wider definition would
 -- be seen. Tests of the program play what is safe.
+use Rattle.std.specs.Char.{encode_utf8}
 use Rattle.std.proofs.Common.{◌≡◌, ◌≢◌, ◌⊎◌, ◌<◌, ◌+◌, ◌∷◌, ◌∙◌, [], ℕ, false, true, List, None, Option, Some, ap}
 use Rattle.std.proofs.Common.{arith, codes, get_or, inl, inr, map, refl, subst, sym}
-use Rattle.std.specs.Char.{encode_utf8}
 use Rattle.std.proofs.lemmas.List.Elements.{All-cons, All-nil}
 use Rattle.rds_block.specs.declared.group.Group.{Group}
 use Rattle.rds_fields.specs.Meaning.{message_in}

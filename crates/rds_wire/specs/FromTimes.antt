@@ -1,6 +1,5 @@
 -- What `slots` writes of a recording with times is a received log. Lists have the newest first.
-use Rattle.std.specs.Prelude.{◌≡◌, ◌+◌, ◌-◌, ◌<◌, ◌^◌, ◌∷◌, ℕ, List, Option, length}
-use Rattle.std.specs.List.{All}
+use Rattle.std.specs.Prelude.{◌≡◌, ◌+◌, ◌-◌, ◌<◌, ◌^◌, ◌∷◌, ℕ, List, Option, length, All}
 use Rattle.rds_block.specs.declared.group.Group.{Group}
 use Rattle.rds_arrivals.specs.Delivered.{AreBelowASlot, Delivery, arrivals}
 use Rattle.rds_arrivals.specs.Laws.{AreDelivered}

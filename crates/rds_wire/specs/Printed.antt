@@ -1,6 +1,5 @@
 -- What the output of `decode` shows in each slot, read as lines. Lists have the newest first.
-use Rattle.std.specs.Prelude.{◌≡◌, ◌⊎◌, ◌<◌, ◌≤◌, [], ℕ, Bool, List, Option, None, Some}
-use Rattle.std.specs.List.{Contains}
+use Rattle.std.specs.Prelude.{◌≡◌, ◌⊎◌, ◌<◌, ◌≤◌, [], ℕ, Bool, List, Option, None, Some, Contains}
 use Rattle.rds_lines.specs.LogLines.{AreLines, Line}
 use Rattle.rds_log.specs.LogWrites.{LinesWrite}
 use Rattle.rds_lines.specs.Reads.{BeginsWith}

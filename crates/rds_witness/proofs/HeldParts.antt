@@ -46,13 +46,13 @@ pub part_stored : (d e rest rest_other : ℕ) (one other : StoredSegments)
     → HasCells (held_cells one.mask one.bytes) (held_cells other.mask other.bytes)
     → (one.mask ≡ 0) ⊎ ((is_set one.flag ≡ is_set other.flag) × (age_stored e rest_other other ≤ age_stored d rest one))
     → HoldsPart (segments_stored d rest one) (segments_stored e rest_other other)
-part_stored d e rest rest_other one other cells newer = grind (arith, nat_tests, nothing_held)
+part_stored d e rest rest_other one other cells newer = grind (arith, nothing_held)
 
 newest_cell : (g : Segment) (older : List Segment)
     → get (cells_of (g ∷ older)) g.fragment.address ≡ Some g.fragment.bytes
 newest_cell g older =
     let a = g.fragment.address in
-    let same : nat_eq a a ≡ true = grind (arith, nat_tests) in
+    let same : nat_eq a a ≡ true = grind (arith) in
     get-insert nat_cmp_total (cells_of older) a g.fragment.bytes a
     ∙ ap (λ is. cond is (Some g.fragment.bytes) (get (cells_of older) a)) (unsigned_tied a a ∙ same)
 
@@ -70,7 +70,7 @@ held_part m t (g ∷ older) (h ∷ later) one other part mine theirs =
 
 same_newest : (first : ℕ) (h k : List (Option Message)) → length h ≡ length k
     → newest_slot first h ≡ newest_slot first k
-same_newest first h k long = grind (arith, nat_tests)
+same_newest first h k long = grind (arith)
 
 -- a log has as many messages as slots
 heard_long : (pi : ℕ) (input : List (Option Group)) → length input ≡ length (heard_of pi input)
@@ -88,7 +88,7 @@ heard_part : (pick : Message → Option Fragment) (m : ℕ) (one other : HeldSeg
     → HoldsRun m (newest_slot 0 k) (run m (newest_slot 0 k) (segments pick 0 k)) other
     → IsPart (run_at pick m 0 h) (run_at pick m 0 k)
 heard_part pick m one other h k part long holds other_holds =
-    grind (arith, nat_tests, same_newest, run_at_newest, held_part)
+    grind (arith, same_newest, run_at_newest, held_part)
 
 -- ---- whole receivers
 
@@ -108,7 +108,7 @@ module _ (pi m : ℕ) (one other : Receiver)
     (theirs : ReceiverAt (tuned pi m) other more) (long : length input ≡ length more) where
   same_pair : IsPairPart (display_stored one.display).pair (display_stored other.display).pair
       → IsPairPart (pair_held m 0 (heard_of pi input)) (pair_held m 0 (heard_of pi more))
-  same_pair held = grind (arith, nat_tests)
+  same_pair held = grind (arith)
 
   -- a receiver that lost more heard a part
   pub holds_part : IsInputPart (tuned pi m) input more
@@ -155,41 +155,27 @@ more_cells one other address bytes has a b held =
 
 -- the cells of a part are among the cells of the whole
 pub part_cells : (one other : List Segment) → IsPart one other → HasCells (cells_of one) (cells_of other)
-part_cells one other part = grind (arith, nat_tests, no_cells)
+part_cells one other part = grind (arith, no_cells)
 
 -- a part of a part is a part
 pub part_through : (one two three : List Segment) → IsPart one two → IsPart two three → IsPart one three
-part_through one two three p q = grind (arith, nat_tests)
+part_through one two three p q = grind (arith)
 
 -- once both took a segment
 pub part_taken : (m n : ℕ) (p : Fragment) (one other : List Segment) → 0 < m → IsPart (run m n one) (run m n other)
     → IsPart (run m n (record { slot = n; fragment = p } ∷ one)) (run m n (record { slot = n; fragment = p } ∷ other))
 part_taken m n p one other some part =
-    let x : Segment = record { slot = n; fragment = p } in
-    rw (run_recent m n x one (omega arith), run_recent m n x other (omega arith))
-    (refl, omega arith, more_cells _ _ p.address p.bytes (joined (run m n one) (run m n other) refl refl part))
-  where
-    joined : (r s : List Segment) → run m n one ≡ r → run m n other ≡ s → IsPart r s
-        → HasCells (cells_of (run_before m p.flag n one)) (cells_of (run_before m p.flag n other))
-    joined [] s is_r is_s q = (let none = before_same m n p.flag one (rw is_r tt) ∙ is_r in rw none (no_cells _))
-    joined (g ∷ older) [] is_r is_s q = absurd q
-    joined (g ∷ older) (h ∷ rest) is_r is_s q = elim (equal_or_not p.flag g.fragment.flag) [
-      | inl same ↦
-          let mine = before_same m n p.flag one (rw is_r same) ∙ is_r in
-          let theirs = before_same m n p.flag other (rw is_s (same ∙ q.0)) ∙ is_s in
-          rw (mine, theirs) q.2
-      | inr apart ↦ rw (before_other m n p.flag g.fragment.flag one (rw is_r refl) apart) (no_cells _)
-    ]
+    grind (arith, nat_tests, run_recent, more_cells, before_same, no_cells, equal_or_not, before_other)
 
 -- ---- what is shown
 
 -- a text that is whole in some of the cells is whole in all
 pub whole_text : (one other : Cells) (x : List ℕ) → HasCells one other → IsWholeText one x → IsWholeText other x
-whole_text one other x has w = grind (arith, nat_tests)
+whole_text one other x has w = grind (arith)
 
 -- a name that is whole in some of the cells is whole in all
 pub whole_name : (one other : Cells) (x : List ℕ) → HasCells one other → IsWholeName one x → IsWholeName other x
-whole_name one other x has w = grind (arith, nat_tests)
+whole_name one other x has w = grind (arith)
 
 -- ---- what was heard
 
@@ -197,14 +183,14 @@ whole_name one other x has w = grind (arith, nat_tests)
 pub part_aged : (pick : Message → Option Fragment) (m : ℕ) (one other : List (Option Message))
     → length one ≡ length other → IsPart (run_at pick m 0 one) (run_at pick m 0 other)
     → IsPart (run m (0 + length one) (segments pick 0 one)) (run m (0 + length one) (segments pick 0 other))
-part_aged pick m one other long part = grind (arith, nat_tests)
+part_aged pick m one other long part = grind (arith)
 
 -- whatever both hear in the next slot
 pub part_heard : (pick : Message → Option Fragment) (m : ℕ) (x : Option Message) (one other : List (Option Message))
     → 0 < m → length one ≡ length other
     → IsPart (run_at pick m 0 one) (run_at pick m 0 other)
     → IsPart (run_at pick m 0 (x ∷ one)) (run_at pick m 0 (x ∷ other))
-part_heard pick m x one other some long part = grind (arith, nat_tests, part_aged, part_taken)
+part_heard pick m x one other some long part = grind (arith, part_aged, part_taken)
 
 -- ---- one receiver
 
@@ -215,15 +201,15 @@ aged m heard = pair_from 0 (begins_in (run m (0 + length heard) (segments text_f
 -- only a receiver that knows RadioText Plus holds a pair
 none_unknown : (since : ℕ) (heard : List (Option Message)) → is_known heard ≡ false → pair_since 0 since heard ≡ None
 none_unknown since [] unknown = refl
-none_unknown since (x ∷ before) unknown = grind (arith, nat_tests, none_unknown since before)
+none_unknown since (x ∷ before) unknown = grind (arith, none_unknown since before)
 
 unless_none : (says : Option Bool) → unless_contrary says None ≡ None
-unless_none says = grind (arith, nat_tests)
+unless_none says = grind (arith)
 
 from_announced : (begins : Option ℕ) (heard : List (Option Message)) (code bits aid : ℕ)
     → pair_from 0 begins (Some (Announce code bits aid) ∷ heard) ≡ unless_contrary (says_of_rtplus code aid)
     (pair_from 0 begins heard)
-from_announced begins heard code bits aid = grind (arith, nat_tests)
+from_announced begins heard code bits aid = grind (arith)
 
 -- tags that come in a run while RadioText Plus is known are held
 from_tags : (g : Segment) (older : List Segment) (heard : List (Option Message)) (pair : PairFields)
@@ -235,17 +221,17 @@ from_tags g (o ∷ older) heard pair all known = from_tags o older heard pair al
 -- other tags leave the pair
 from_tags_unknown : (begins : Option ℕ) (heard : List (Option Message)) (pair : PairFields) → is_known heard ≡ false
     → pair_from 0 begins (Some (Tags pair) ∷ heard) ≡ None
-from_tags_unknown begins heard pair unknown = grind (arith, nat_tests, none_unknown)
+from_tags_unknown begins heard pair unknown = grind (arith, none_unknown)
 
 -- ---- two receivers
 
 -- no pair, or the same one: so after both moved on
 moved : (a b c d : Option PairFields) → a ≡ b → c ≡ d → IsPairPart a c → IsPairPart b d
-moved a b c d one other part = grind (arith, nat_tests)
+moved a b c d one other part = grind (arith)
 
 known_next : (x : Option Message) (one other : List (Option Message)) → (is_known one ≡ true → is_known other ≡ true)
     → is_known (x ∷ one) ≡ true → is_known (x ∷ other) ≡ true
-known_next x one other known is = grind (arith, nat_tests)
+known_next x one other known is = grind (arith)
 
 module _ (m : ℕ) (one other : List (Option Message)) (some : 0 < m)
     (part : IsPart (run m (0 + length one) (segments text_fragment 0 one))
@@ -256,11 +242,11 @@ module _ (m : ℕ) (one other : List (Option Message)) (some : 0 < m)
   same_announced : (code bits aid : ℕ) → IsPairPart (aged m one) (aged m other)
       → IsPairPart (pair_held m 0 (Some (Announce code bits aid) ∷ one)) (pair_held m 0 (Some (Announce code bits aid)
       ∷ other))
-  same_announced code bits aid held = grind (arith, nat_tests, from_announced, unless_none)
+  same_announced code bits aid held = grind (arith, from_announced, unless_none)
 
   below : (heard : List (Option Message)) (g : Segment) (older : List Segment)
       → run m (0 + length heard) (segments text_fragment 0 heard) ≡ g ∷ older → AllBelow (0 + length heard) (g ∷ older)
-  below heard g older is = grind (arith, nat_tests, run_below, segments_below)
+  below heard g older is = grind (arith, run_below, segments_below)
 
   held_tags : (heard : List (Option Message)) (g : Segment) (older : List Segment) (pair : PairFields)
       → run m (0 + length heard) (segments text_fragment 0 heard) ≡ g ∷ older → is_known heard ≡ true
@@ -287,7 +273,7 @@ module _ (m : ℕ) (one other : List (Option Message)) (some : 0 < m)
   with_text : (heard : List (Option Message)) (f : Bool) (a : ℕ) (b : List ℕ) (r : List Segment)
       → run_before m f (0 + length heard) (segments text_fragment 0 heard) ≡ r
       → pair_from 0 (begins_in r) heard ≡ pair_held m 0 (Some (Text f a b) ∷ heard)
-  with_text heard f a b r is = grind (arith, nat_tests, pair_goes_on, run_recent)
+  with_text heard f a b r is = grind (arith, pair_goes_on, run_recent)
 
   same_text : (f : Bool) (a : ℕ) (b : List ℕ)
       → IsPairPart (pair_held m 0 (Some (Text f a b) ∷ one)) (pair_held m 0 (Some (Text f a b) ∷ other))
@@ -372,10 +358,7 @@ goes m (y ∷ before) held holds young = by (segments text_fragment 0 (y ∷ bef
 newest_flag : (m : ℕ) (heard : List (Option Message)) (f : Bool) (a : ℕ) (b : List ℕ) (held : HeldSegments) → 0 < m
     → HoldsRun m (0 + length heard) (run m (0 + length heard) (segments text_fragment 0 (Some (Text f a b) ∷ heard)))
     held → held.flag ≡ f
-newest_flag m heard f a b held some holds =
-    let s : Segment = record { slot = 0 + length heard; fragment = record { flag = f; address = a; bytes = b } } in
-    subst (λ (r : List Segment). HasFlag r held.flag)
-    (run_recent m (0 + length heard) s (segments text_fragment 0 heard) (omega (arith, some))) holds.flag
+newest_flag m heard f a b held some holds = grind (arith, run_recent)
 
 -- the run begins in the same slot before and after the next one
 pub same_run : (pi m : ℕ) (old new : Receiver) (group : Option Group) (input : List (Option Group))
@@ -409,12 +392,12 @@ same_run_of_log pi m n log old new young flag was is = same_run pi m old new (gr
 
 tags_through : (m first : ℕ) (one two three : List (Option Message)) → IsTagPart m first one two
     → IsTagPart m first two three → IsTagPart m first one three
-tags_through m first one two three p q = grind (arith, nat_tests)
+tags_through m first one two three p q = grind (arith)
 
 -- a part of a part of an input is a part of it
 pub input_through : (t : Tuning) (r : Receiver) (one two three : List (Option Group)) → ReceiverAt t r two
     → IsInputPart t one two → IsInputPart t two three → IsInputPart t one three
-input_through t r one two three stands p q = grind (arith, nat_tests, part_through, tags_through)
+input_through t r one two three stands p q = grind (arith, part_through, tags_through)
 
 -- one that is kept holds all that is offered
 pub keeps_part : (t : Tuning) (n : ℕ) (kept : List Lossy) (one by : Lossy) → Contains kept by
@@ -477,7 +460,7 @@ covers_next pi m s later group input stands covers = record {
 pub covers_itself : (pi m : ℕ) (input : List (Option Group)) (s : Lossy)
     → ReceiverAt (tuned pi m) s.receiver input
     → CoversInput (tuned pi m) input s
-covers_itself pi m input s stands = grind (arith, nat_tests)
+covers_itself pi m input s stands = grind (arith)
 
 -- ---- a list with one more in front
 

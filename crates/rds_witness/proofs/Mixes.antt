@@ -1,6 +1,7 @@
 -- How lines of mixes go on by the lines of a kind of things.
 use Rattle.std.proofs.Common.{[], ◌≡◌, ◌+◌, ◌∷◌, ℕ, List, Option, arith, inl, inr, refl, ◌⊎◌, ◌++◌, ◌<◌, ◌∙◌, None}
-use Rattle.std.proofs.Common.{Some, ap, append_assoc, subst, suc, codes, length, sym, ◌≤◌, Bool, false, true}
+use Rattle.std.proofs.Common.{Some, ap, append_assoc, subst, suc, codes, length, sym, ◌≤◌, Bool, false, true, Contains}
+use Rattle.std.proofs.Common.{nat_cmp, ◌↔◌, IsTrue, if◌then◌else◌, is_some, nat_le, unwrap_or, bytes_eq}
 use Rattle.std.proofs.lemmas.Bool.{cases_lt}
 use Rattle.rds_block.specs.declared.group.Group.{Group}
 use Rattle.rds_receiver.specs.OneView.{same_view}
@@ -11,8 +12,6 @@ use Rattle.rds_receiver.specs.declared.receiver.Receiver.{Receiver}
 use Rattle.rds_witness.specs.Lost.{got, got-more, group_left}
 use Rattle.rds_witness.specs.Mix.{NeverShows, ViewHas, Thing, AreAround, Has, IsMix, until, Name, Tag, Text}
 use Rattle.rds_witness.specs.declared.burst.Burst.{Burst}
-use Rattle.std.proofs.lemmas.Bool.Decides.{nat_tests}
-use Rattle.std.specs.List.{Contains}
 use Rattle.std.proofs.lemmas.List.Elements.{All-cons, All-nil}
 use Rattle.rds_witness.specs.Lines.{AreMixLines, mix_line, shown_line, mix_lines}
 use Rattle.rds_witness.specs.SomeLines.{AreSomeMixLines, kind_of, thing_in}
@@ -21,11 +20,7 @@ use Rattle.std.proofs.lemmas.Map.Text.{is_eq-slice_cmp}
 use Rattle.std.proofs.lemmas.Slice.Eq.{bytes_eq-Decides}
 use Rattle.std.specs.BTreeMap.{Updates, is_at}
 use Rattle.std.specs.Cmp.Lexicographic.{slice_cmp}
-use Rattle.std.specs.Ordering.{nat_cmp}
-use Rattle.std.specs.Prelude.{◌↔◌, IsTrue, if◌then◌else◌, is_some, nat_le}
 use Rattle.std.specs.Map.{lookup}
-use Rattle.std.specs.Option.{unwrap_or}
-use Rattle.std.specs.Str.{bytes_eq}
 use Rattle.arrayvec.specs.ArrayVec.{ArrayVec}
 use Rattle.rds_fields.specs.declared.pair.Which.TheVariants.{One, Two}
 use Rattle.rds_view_lines.specs.Output.{nothing_shown}
@@ -65,11 +60,11 @@ never_more t log n thing view never is not_shown slot other less is_other shown 
 
 -- there are four kinds
 pub kinds_below : (thing : Thing) → kind_of thing < 4
-kinds_below thing = grind (arith, nat_tests)
+kinds_below thing = grind (arith)
 
 -- a thing that a view has is the one of its kind
 pub in_place : (view : ShownView) (thing : Thing) → Has view thing → thing_in view (kind_of thing) ≡ Some thing
-in_place view thing has = grind (arith, nat_tests)
+in_place view thing has = grind (arith)
 
 -- the same for a kind that is given
 pub of_kind : (view : ShownView) (kind : ℕ) (thing : Thing) → kind_of thing ≡ kind → Has view thing
@@ -78,14 +73,14 @@ of_kind view kind thing is has = rw is at (in_place view thing has)
 
 -- a view has one thing of a kind
 pub one_thing : (view : ShownView) (a b : Thing) → kind_of a ≡ kind_of b → Has view a → Has view b → a ≡ b
-one_thing view a b same p q = grind (arith, nat_tests)
+one_thing view a b same p q = grind (arith)
 
 -- what holds of the things of the first kinds and of the thing of the next holds of those of one kind more
 pub more_kinds : (Holds : Thing → Type 0) (view : ShownView) (kind : ℕ)
     → ((thing : Thing) → kind_of thing < kind → Has view thing → Holds thing)
     → ((thing : Thing) → thing_in view kind ≡ Some thing → Holds thing)
     → (thing : Thing) → kind_of thing < kind + 1 → Has view thing → Holds thing
-more_kinds Holds view kind before next thing below has = grind (arith, nat_tests)
+more_kinds Holds view kind before next thing below has = grind (arith)
 
 contains_here : (xs : List Thing) (x : Thing) → Contains (x ∷ xs) x
 contains_here xs x = (0, omega arith, refl)
@@ -98,7 +93,7 @@ contains_more xs y x (k, less, is) = (suc k, omega (arith, less), is)
 module _ (t : Tuning) (ahead : ℕ) (log : List (Option Group)) (lost : List Burst) (words : List ℕ) (slot : ℕ) where
   -- before the first kind
   pub no_lines : (lines : List ℕ) → lines ≡ [] → AreSomeMixLines 0 t ahead log lost words slot lines
-  no_lines lines none = grind (arith, nat_tests)
+  no_lines lines none = grind (arith)
 
   -- a slot without a mix
   pub no_mixes : ((thing : Thing) → IsMix t ahead log lost slot thing → ⊥) → AreMixLines t ahead log lost words slot []
@@ -114,7 +109,7 @@ module _ (t : Tuning) (ahead : ℕ) (log : List (Option Group)) (lost : List Bur
   pub adds_none : (n : ℕ) (lines : List ℕ)
       → ((thing : Thing) → kind_of thing ≡ n → IsMix t ahead log lost slot thing → ⊥)
       → AreSomeMixLines n t ahead log lost words slot lines → AreSomeMixLines (n + 1) t ahead log lost words slot lines
-  adds_none n lines none had = grind (arith, nat_tests)
+  adds_none n lines none had = grind (arith)
 
   module _ (before after : ShownView) (around : AreAround t log lost slot before after) where
     has_after : (thing : Thing) → IsMix t ahead log lost slot thing → Has after thing
@@ -172,7 +167,7 @@ module _ (t : Tuning) (ahead : ℕ) (log : List (Option Group)) (lost : List Bur
 -- ---- the lines of the mixes of a receiver that loses given slots, slot after slot
 
 pub has_shows : (view : ShownView) (thing : Thing) → Has view thing → ViewHas view thing
-has_shows view thing has = grind (arith, nat_tests)
+has_shows view thing has = grind (arith)
 
 -- ---- lines that are empty
 
@@ -193,11 +188,11 @@ no_line_end : (a : List ℕ) → a ++ codes "\n" ≡ [] → ⊥
 no_line_end a none = (let end = ends_empty a (codes "\n") none in absurd (cc))
 
 no_shown_line : (slot : ℕ) (thing : Thing) → shown_line slot thing ≡ [] → ⊥
-no_shown_line slot thing none = grind (arith, nat_tests, no_line_end)
+no_shown_line slot thing none = grind (arith, no_line_end)
 
 no_things : (slot : ℕ) (things : List Thing) → mix_lines [] slot things ≡ [] → things ≡ []
 no_things slot [] none = refl
-no_things slot (thing ∷ older) none = grind (arith, nat_tests, no_shown_line, ends_empty)
+no_things slot (thing ∷ older) none = grind (arith, no_shown_line, ends_empty)
 
 contains_none : (things : List Thing) (thing : Thing) → things ≡ [] → Contains things thing → ⊥
 contains_none things thing none (k, less, is) = omega (arith, ap length none)
@@ -250,7 +245,7 @@ module _ (t : Tuning) (ahead : ℕ) (log : List (Option Group)) (lost : List Bur
 
 -- a view that shows a thing shows each thing with its key
 same_key : (view : ShownView) (one other : Thing) → key_of one ≡ key_of other → ViewHas view one → ViewHas view other
-same_key view one other same shown = grind (arith, nat_tests)
+same_key view one other same shown = grind (arith)
 
 -- and it has one of them
 has_key : (view : ShownView) (thing : Thing) → ViewHas view thing
@@ -273,41 +268,24 @@ none_yet (Some x) slot none = absurd (cc)
 -- what is noted at a key stays
 pub kept_at : (firsts : Firsts) (key : List ℕ) (slot : ℕ) → is_some (slot_at firsts key) ≡ true → (q : List ℕ)
     → slot_at firsts q ≡ (if bytes_eq key q then Some (unwrap_or (slot_at firsts q) slot) else slot_at firsts q)
-kept_at firsts key slot has q = by (bytes_eq key q) (bytes_eq-Decides key q).0
-  where
-    by : (same : Bool) → (same ≡ true → key ≡ q)
-        → slot_at firsts q ≡ (if same then Some (unwrap_or (slot_at firsts q) slot) else slot_at firsts q)
-    by true is = some_again (slot_at firsts q) slot (subst (λ (k : List ℕ). is_some (slot_at firsts k) ≡ true) (is refl)
-        has)
-    by false is = refl
+kept_at firsts key slot has q = grind (arith, bytes_eq-Decides, some_again)
 
 -- a slot is noted at a new key
 pub noted_at : (old new : Firsts) (key : ArrayVec ℕ) (slot : ℕ) → is_some (slot_at old key.items) ≡ false
     → Updates (λ v w. slice_cmp nat_cmp v.items w.items) old.slots new.slots key (Some slot) → (q : List ℕ)
     → slot_at new q ≡ (if bytes_eq key.items q then Some (unwrap_or (slot_at old q) slot) else slot_at old q)
-noted_at old new key slot none updates q =
-    updates.0 (record { items = q })
-    ∙ ap (λ (b : Bool). if b then Some slot else slot_at old q) (is_eq-slice_cmp key.items q)
-    ∙ by (bytes_eq key.items q) (bytes_eq-Decides key.items q).0
-  where
-    by : (same : Bool) → (same ≡ true → key.items ≡ q)
-        → (if same then Some slot else slot_at old q)
-        ≡ (if same then Some (unwrap_or (slot_at old q) slot) else slot_at old q)
-    by true is = none_yet (slot_at old q) slot (subst (λ (k : List ℕ). is_some (slot_at old k) ≡ false) (is refl) none)
-    by false is = refl
+noted_at old new key slot none updates q = grind (arith, is_eq-slice_cmp, bytes_eq-Decides, none_yet)
 
 -- ---- no slot
 
 -- before the first slot nothing is noted
 pub first_none : (t : Tuning) (log : List (Option Group)) (firsts : Firsts) → firsts.slots.entries ≡ []
     → AreFirsts t log 0 firsts
-first_none t log firsts none thing =
-    subst (λ (entries : List (ArrayVec ℕ × ℕ)). IsFirst t log 0 thing (lookup (is_at (λ (v : ArrayVec ℕ). slice_cmp
-    nat_cmp (key_of thing) v.items)) entries)) (sym none) (never_none t log thing)
+first_none t log firsts none thing = grind (arith, never_none)
 
 -- and nothing is shown
 pub shows_none : (thing : Thing) → ViewHas nothing_shown thing → ⊥
-shows_none thing shown = grind (arith, nat_tests)
+shows_none thing shown = grind (arith)
 
 -- ---- before a slot
 
@@ -319,16 +297,7 @@ never_before t log n slots thing within never slot view less is shown = never sl
 -- the first slot is behind these exactly if none of them shows the thing
 pub is_not_before : (t : Tuning) (log : List (Option Group)) (n slots first : ℕ) (thing : Thing)
     → IsFirst t log n thing (Some first) → IsTrue (nat_le slots first) ↔ NeverShows t log slots thing
-is_not_before t log n slots first thing is = (
-  λ yes. let within : slots ≤ first = grind (arith, nat_tests) in never_before t log first slots thing within is.2,
-  λ never. elim (cases_lt first slots) [
-    | inl less ↦ (
-        let it = is.1 in
-        let before = it.before in
-        absurd (never it.slot it.view (omega (arith, before, less)) it.is it.shows))
-    | inr from ↦ grind (arith, nat_tests)
-  ],
-)
+is_not_before t log n slots first thing is = grind (arith, never_before)
 
 -- ---- one slot more
 

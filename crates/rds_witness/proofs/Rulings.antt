@@ -1,9 +1,7 @@
 -- Why a slot has no mix if receivers that hold all that others hold show nothing else than one that loses nothing.
 use Rattle.std.proofs.Common.{◌≡◌, ◌∙◌, ◌∷◌, [], ◌+◌, ◌<◌, ◌≤◌, ℕ, zero, suc, false, true, List, Option, None, add-one}
-use Rattle.std.proofs.Common.{ap, arith, length, refl, sym, Some, get_or, reverse, take}
-use Rattle.std.specs.Prelude.{if◌then◌else◌, slice_index_or}
+use Rattle.std.proofs.Common.{ap, arith, length, refl, sym, Some, get_or, reverse, take, if◌then◌else◌, slice_index_or}
 use Rattle.std.proofs.lemmas.List.Folds.{list_any_more}
-use Rattle.std.proofs.lemmas.Bool.Decides.{nat_tests}
 use Rattle.rds_block.specs.declared.group.Group.{Group}
 use Rattle.rds_witness.specs.Lost.{got, got-more, got-none, has_slot, is_lost, group_left}
 use Rattle.rds_witness.specs.declared.burst.Burst.{Burst}
@@ -28,20 +26,20 @@ use Rattle.rds_witness.proofs.HeldParts.{by_first, part_cells, whole_name, whole
 use Rattle.rds_receiver.specs.ReceiverAt.{ReceiverAt}
 use Rattle.rds_receiver.specs.Stored.{display_stored}
 use Rattle.rds_receiver.specs.declared.receiver.Receiver.{Receiver}
-use Rattle.rds_receiver.proofs.Alike.{alike_itself, stays_shown}
+use Rattle.rds_receiver.proofs.Shows.{alike_itself, stays_shown}
 use Rattle.std.proofs.Math.Seq.{take-suc}
 use Rattle.std.proofs.lemmas.List.{reverse-append, take_all}
 
 -- ---- what receivers get that lose different slots
 
 pub not_lost_before : (burst : Burst) (n : ℕ) → n < burst.first → is_lost (burst ∷ []) n ≡ false
-not_lost_before burst n less = grind (arith, nat_tests)
+not_lost_before burst n less = grind (arith)
 
 pub not_lost_behind : (burst : Burst) (n : ℕ) → burst.last < n → is_lost (burst ∷ []) n ≡ false
-not_lost_behind burst n less = grind (arith, nat_tests)
+not_lost_behind burst n less = grind (arith)
 
 pub lost_inside : (burst : Burst) (n : ℕ) → burst.first ≤ n → n ≤ burst.last → is_lost (burst ∷ []) n ≡ true
-lost_inside burst n from to = grind (arith, nat_tests)
+lost_inside burst n from to = grind (arith)
 
 -- one burst more is lost
 pub burst_more : (lost : List Burst) (k : ℕ) (d : Burst) (log old new : List (Option Group)) (n : ℕ) → k < length lost
@@ -50,7 +48,7 @@ pub burst_more : (lost : List Burst) (k : ℕ) (d : Burst) (log old new : List (
     → slice_index_or new n None ≡ group_left (take (k + 1) lost) log n
 burst_more lost k d log old new n inside was is =
     let test = list_any_more (λ (burst : Burst). has_slot burst n) lost k d inside in
-    grind (arith, nat_tests)
+    grind (arith)
 
 received_alike : (one other : List Burst) (log : List (Option Group)) (n : ℕ) → is_lost one n ≡ is_lost other n
     → group_left one log n ≡ group_left other log n
@@ -67,13 +65,13 @@ got_alike one other log (suc n) alike =
 -- a burst that begins in slot n, up to it
 pub got_before : (burst : Burst) (log : List (Option Group)) (n : ℕ) → n ≤ burst.first
     → got (burst ∷ []) log n ≡ got [] log n
-got_before burst log n less = grind (arith, nat_tests, got_alike, not_lost_before)
+got_before burst log n less = grind (arith, got_alike, not_lost_before)
 
 -- bursts that begin together, up to slot n, which is behind neither by more than one
 pub got_together : (one other : Burst) (log : List (Option Group)) (n : ℕ) → one.first ≡ other.first → n ≤ one.last + 1
     → n ≤ other.last + 1 → got (one ∷ []) log n ≡ got (other ∷ []) log n
 got_together one other log n same one_more other_more =
-    grind (arith, nat_tests, got_alike, not_lost_before, lost_inside)
+    grind (arith, got_alike, not_lost_before, lost_inside)
 
 -- the next slot, behind the burst and in it
 pub heard_next : (burst : Burst) (log : List (Option Group)) (n : ℕ) (group : Option Group) → burst.last < n
@@ -105,12 +103,12 @@ pub record Cuts (which : Which) (text : Option (List ℕ)) (pair : Option PairFi
 
 pub cuts : (which : Which) (text : Option (List ℕ)) (pair : Option PairFields) (class : ℕ) (piece : List ℕ)
     → tag_of which text pair ≡ Some (class, piece) → Cuts which text pair class piece
-cuts which text pair class piece is = grind (arith, nat_tests)
+cuts which text pair class piece is = grind (arith)
 
 cuts_again : (which : Which) (text other : Option (List ℕ)) (pair more : Option PairFields) (class : ℕ) (piece : List ℕ)
     → ((x : List ℕ) → text ≡ Some x → other ≡ Some x) → IsPairPart pair more
     → tag_of which text pair ≡ Some (class, piece) → tag_of which other more ≡ Some (class, piece)
-cuts_again which text other pair more class piece shows held is = grind (arith, nat_tests)
+cuts_again which text other pair more class piece shows held is = grind (arith)
 
 -- ---- a part has no other things
 
@@ -133,7 +131,7 @@ module _ (t : Tuning) (one other : List (Option Group)) (part : IsInputPart t on
       shown_name _ w.name x is_other.name (whole_name _ _ x (part_cells _ _ part.names) shown)
 
   pub view_part : (thing : Thing) → Has v thing → Has w thing
-  view_part thing has = grind (arith, nat_tests, text_part, name_part, cuts_again)
+  view_part thing has = grind (arith, text_part, name_part, cuts_again)
 
 -- ---- the receiver that loses nothing
 
@@ -147,7 +145,7 @@ own_tag t log n slots which class piece view less is has = search (arith, cuts)
 
 pub own_things : (t : Tuning) (log : List (Option Group)) (n slots : ℕ) (view : ShownView) (thing : Thing) → n < slots
     → IsView t (got [] log (n + 1)) view → Has view thing → IsSeenBefore t log slots thing
-own_things t log n slots view thing less is has = grind (arith, nat_tests, own_tag)
+own_things t log n slots view thing less is has = grind (arith, own_tag)
 
 -- ---- a slot without a mix
 
@@ -155,7 +153,7 @@ own_things t log n slots view thing less is has = grind (arith, nat_tests, own_t
 seen_mix : (t : Tuning) (log : List (Option Group)) (burst : Burst) (n : ℕ) (thing : Thing)
     → IsBurstMix t log burst n thing → IsSeenBefore t log (until t.dwell log n) thing
     → IsReplaced t log (until t.dwell log n) thing
-seen_mix t log burst n thing mix seen = grind (arith, nat_tests)
+seen_mix t log burst n thing mix seen = grind (arith)
 
 -- what a covered receiver shows is no mix
 pub no_mix : (t : Tuning) (log : List (Option Group)) (n slots : ℕ) → slots ≡ until t.dwell log n → n < slots
@@ -189,15 +187,14 @@ no_mix t log n slots is soon views whole receivers same_whole hold show burst th
 -- a slot is among those that count for it
 pub now_before_until : (dwell : ℕ) (log : List (Option Group)) (n : ℕ) → 0 < dwell → n < length log
     → n < until dwell log n
-now_before_until dwell log n some inside = grind (arith, nat_tests)
+now_before_until dwell log n some inside = grind (arith)
 
 -- ---- what a receiver shows wherever it stands, and in later slots
 
 -- the view of a state at two inputs
 view_at : (t : Tuning) (r : Receiver) (one other : List (Option Group)) (v : ShownView) → ReceiverAt t r one
     → ReceiverAt t r other → IsView t one v → IsView t other v
-view_at t r one other v mine theirs =
-    stays_shown t r r one other v mine theirs (alike_itself (display_stored r.display))
+view_at t r one other v mine theirs = search (arith, stays_shown, alike_itself)
 
 only_everywhere : (t : Tuning) (log : List (Option Group)) (n : ℕ) (r : Receiver) (input : List (Option Group))
     → ReceiverAt t r input → HasOnlySeen t log n input → ShowsOnlySeen t log n r
@@ -216,11 +213,11 @@ only_stays t log n old new group input same stands now only =
 -- what shows only what was seen up to a slot shows only that up to a later one
 pub only_later : (t : Tuning) (log : List (Option Group)) (n k : ℕ) (r : Receiver) → n ≤ k
     → ShowsOnlySeen t log n r → ShowsOnlySeen t log k r
-only_later t log n k r less only input stands = grind (arith, nat_tests)
+only_later t log n k r less only input stands = grind (arith)
 
 -- the end of the slots that count does not go back
 pub until_later : (m : ℕ) (log : List (Option Group)) (n : ℕ) → until m log n ≤ until m log (n + 1)
-until_later m log n = grind (arith, nat_tests)
+until_later m log n = grind (arith)
 
 -- ---- a receiver that loses nothing gets the slots of the log
 

@@ -1,15 +1,13 @@
 -- How a text of spans is read on.
-use Rattle.std.proofs.lemmas.Bool.Decides.{nat_tests}
 use Rattle.std.proofs.Common.{◌≡◌, ◌≤◌, ◌+◌, ℕ, zero, suc, Bool, true, false, List, None, Some, add-one, arith, inl}
-use Rattle.std.proofs.Common.{inr}
-use Rattle.std.specs.Prelude.{slice_index}
+use Rattle.std.proofs.Common.{inr, slice_index}
 use Rattle.std.proofs.lemmas.Bool.{cases_lt}
 use Rattle.rds_witness.specs.Spans.{ReadsOn, SpanReading, read, read-more, reading_of, with_byte}
 use Rattle.rds_witness.specs.declared.spans.SpanReader.{SpanReader}
 
 -- a text that does not fit so far does not fit
 pub none_on : (text : List ℕ) (n k : ℕ) → n ≤ k → read text n ≡ None → read text k ≡ None
-none_on text n zero less none = grind (arith, nat_tests)
+none_on text n zero less none = grind (arith)
 none_on text n (suc k) less none = elim (cases_lt k n) [
   | inl here ↦ (let same : n ≡ suc k = omega arith in rw same at none)
   | inr before ↦ rw (← add-one k, read-more text k, none_on text n k before none)

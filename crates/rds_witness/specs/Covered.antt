@@ -1,7 +1,6 @@
 -- A list of receivers covers a receiver if one of the list holds all that it holds. The list then shows each text, name
 -- and tag that the receiver shows (this project's own rule).
-use Rattle.std.specs.Prelude.{◌≡◌, ◌∷◌, ◌+◌, ℕ, All, List, Option, length}
-use Rattle.std.specs.List.{Contains}
+use Rattle.std.specs.Prelude.{◌≡◌, ◌∷◌, ◌+◌, ℕ, All, List, Option, length, Contains}
 use Rattle.rds_block.specs.declared.group.Group.{Group}
 use Rattle.rds_fields.specs.declared.message.Message.{Message}
 use Rattle.rds_receiver.specs.Receipts.{Tuning, heard_of, name_fragment, text_fragment}

@@ -1,6 +1,5 @@
 -- The lines of mixes on the way: those of the texts, then also of the names, and so on.
-use Rattle.std.specs.Prelude.{◌≡◌, ◌<◌, ◌∷◌, [], ℕ, All, List, None, Option, option_map, slice_index_or}
-use Rattle.std.specs.List.{Contains}
+use Rattle.std.specs.Prelude.{◌≡◌, ◌<◌, ◌∷◌, [], ℕ, All, List, None, Option, option_map, slice_index_or, Contains}
 use Rattle.rds_block.specs.declared.group.Group.{Group}
 use Rattle.rds_fields.specs.declared.pair.Which.TheVariants.{One, Two}
 use Rattle.rds_receiver.specs.Receipts.{Tuning}

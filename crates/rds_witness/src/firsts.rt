@@ -1,8 +1,6 @@
 //! In which slot a receiver that loses nothing shows each thing first.
 ghost use Rattle.std.specs.Prelude.{◌≡◌, ◌≤◌, ◌<◌, ◌+◌, ◌↔◌, [], ℕ, IfOk, IsTrue, List, OnOk, Option, Some, length};
-ghost use Rattle.std.specs.Prelude.{if◌then◌else◌};
-ghost use Rattle.std.specs.Option.{unwrap_or};
-ghost use Rattle.std.specs.Str.{bytes_eq};
+ghost use Rattle.std.specs.Prelude.{if◌then◌else◌, unwrap_or, bytes_eq};
 ghost use Rattle.rds_block.specs.declared.group.Group.{Group};
 ghost use Rattle.rds_receiver.specs.Receipts.{tuned, Tuning};
 ghost use Rattle.rds_receiver.specs.Borrowed.{view_of};

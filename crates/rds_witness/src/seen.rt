@@ -1,9 +1,7 @@
 //! The parts that a receiver without a loss shows, and the first slot of each. For a search, the tags of a pair that the
 //! station replaced count as shown: `firsts` has what is shown.
 ghost use Rattle.std.specs.Prelude.{◌≡◌, ◌+◌, ◌<◌, [], All, IfOk, IfSome, IsTrue, List, OnOk, Option, Some, ℕ, length};
-ghost use Rattle.std.specs.Prelude.{slice_index_or, true};
-ghost use Rattle.std.specs.List.{Contains};
-ghost use Rattle.std.specs.Option.{option_copied};
+ghost use Rattle.std.specs.Prelude.{slice_index_or, true, Contains, option_copied};
 ghost use Rattle.rds_block.specs.declared.group.Group.{Group};
 ghost use Rattle.rds_fields.specs.declared.pair.Which.{Which};
 ghost use Rattle.rds_fields.specs.Tag.{PairFields, tag_in};

@@ -1,6 +1,5 @@
 //! The things that a view shows.
-ghost use Rattle.std.specs.Prelude.{◌≡◌, ◌↔◌, ◌<◌, IfSome, IsTrue, Some, option_map};
-ghost use Rattle.std.specs.Option.{option_copied};
+ghost use Rattle.std.specs.Prelude.{◌≡◌, ◌↔◌, ◌<◌, IfSome, IsTrue, Some, option_map, option_copied};
 ghost use Rattle.rds_receiver.specs.Borrowed.{borrowed_tag, view_of};
 ghost use Rattle.rds_witness.specs.Borrowed.{IsShortThing, thing_of};
 ghost use Rattle.rds_witness.specs.Mix.{Has, ViewHas};

@@ -1,6 +1,5 @@
 -- Lemmas: a receiver of a world that got on time each free one of enough slots of a broadcast shows it, as each
 -- receiver of a station does.
-use Rattle.std.proofs.lemmas.Bool.Decides.{nat_tests}
 use Rattle.std.proofs.Common.{◌≡◌, ◌+◌, ◌-◌, ◌*◌, ◌<◌, ◌≤◌, ℕ, List, [], ◌∷◌, ◌++◌, length-append, Option, Some, refl}
 use Rattle.std.proofs.Common.{sym, subst, arith, length}
 use Rattle.rds_assembly.specs.Body.{segment_count, text_body}
@@ -63,7 +62,7 @@ came_in_own : (d i : ℕ) (recent before : List Event) → GetsEachFree i recent
 came_in_own d i [] before gets s since free = grind (arith, free_before, slots_are)
 came_in_own d i (e ∷ recent) before gets s since earlier =
     let before_it = came_in_own d i recent before gets.1 s since in
-    grind (arith, nat_tests, text_service, slots_are, origins)
+    grind (arith, text_service, slots_are, origins)
 
 -- ---- a receiver of a world
 

@@ -1,14 +1,12 @@
 -- Lemmas: the flag of a station turns with each text or name that it accepts without a restart between, and each that
 -- another one follows lasts for 2d slots. Across a restart comes the empty text, or the newest one with flag 0 again.
-use Rattle.std.proofs.lemmas.Bool.Decides.{nat_tests}
 use Rattle.std.proofs.Common.{◌≡◌, ◌≢◌, ◌⊎◌, ◌+◌, ◌-◌, ◌*◌, ◌≤◌, ℕ, true, false, List, [], ◌∷◌, length, Option, Some}
 use Rattle.std.proofs.Common.{None, refl, sym, subst, inl, inr, arith, is_ok, ◌<◌}
 use Rattle.rds_encoder.specs.Entries.{Move, Begin, Set, End, slot_of, name_moves, text_moves}
 use Rattle.rds_encoder.specs.Plan.{Broadcast, HasNumber, OnAir, accepted, ending_in, next_flag, on_air, plan_of}
 use Rattle.rds_encoder.specs.Reply.{reply_to}
-use Rattle.rds_encoder.proofs.Numbers.{below}
+use Rattle.rds_encoder.proofs.Spacing.{below, long_on_air}
 use Rattle.rds_encoder.proofs.OnAir.{flag_on_air}
-use Rattle.rds_encoder.proofs.Spacing.{long_on_air}
 use Rattle.rds_safety.specs.FlagAlone.{EachLasts, IsFilled, IsHarmless, IsNews, TurnsTheFlag, HearsOneIn, ShowsByFlag}
 use Rattle.rds_world.specs.FlagStation.{HasNoRestart, IsEmptyAfter, IsFirstAfterRestart, IsHarmlessAfter, IsSafeAfter}
 use Rattle.rds_world.specs.FlagStation.{TheEmptyTextIsEnough, TheStationKeepsEach, TheStationTurnsTheFlag}
@@ -49,7 +47,7 @@ IsNewest (newest ∷ older) b = b ≡ newest
 -- the broadcast with the last number is the newest
 newest_by_number : (plan : List Broadcast) (k : ℕ) (a : Broadcast) → HasNumber plan k a → k + 1 ≡ length plan
     → IsNewest plan a
-newest_by_number plan k a p last = grind (arith, nat_tests, below)
+newest_by_number plan k a p last = grind (arith, below)
 
 -- the broadcast on air is the newest
 newest_on_air : (d end : ℕ) (moves : List Move) (air : OnAir) → on_air d moves ≡ Some air
@@ -87,11 +85,11 @@ followed P IsAfter d holds (End free ∷ before) end first = followed P IsAfter 
 followed P IsAfter d holds (Set x ∷ before) end first =
     let closed = followed P IsAfter d holds before (slot_of before - 1) first.1 in
     let lasting = followed P IsAfter d holds before end first.1 in
-    grind (arith, nat_tests)
+    grind (arith)
 
 -- a plan has one newest broadcast
 one_newest : (plan : List Broadcast) (a b : Broadcast) → IsNewest plan a → IsNewest plan b → a ≡ b
-one_newest plan a b p q = grind (arith, nat_tests)
+one_newest plan a b p q = grind (arith)
 
 -- the newest broadcast is the one on air, if there is one
 is_on_air : (d : ℕ) (moves : List Move) (air : OnAir) (a : Broadcast) → on_air d moves ≡ Some air
@@ -110,7 +108,7 @@ flag_0_first d moves on = rw (none_accepted d moves on) refl
 
 harmless_first : (plan : List Broadcast) (a b : Broadcast) → b.flag ≡ false → IsNewest plan a
     → IsHarmlessAfter plan b.bytes → (a.flag ≢ b.flag) ⊎ IsHarmless a b
-harmless_first plan a b flag is after = grind (arith, nat_tests)
+harmless_first plan a b flag is after = grind (arith)
 
 turns_the_flag : (d end : ℕ) (moves : List Move) → IsFirstAfterRestart IsHarmlessAfter d moves
     → TurnsTheFlag (plan_of d end moves)
@@ -126,7 +124,7 @@ on_air_lasted d h air a ok on is = grind (arith, is_on_air, long_on_air)
 
 empty_first : (d : ℕ) (plan : List Broadcast) (a b : Broadcast) → IsNewest plan a → IsEmptyAfter plan b.bytes
     → b.bytes ≢ [] → a.start + 2 * d ≤ a.end + 1
-empty_first d plan a b is after some = grind (arith, nat_tests)
+empty_first d plan a b is after some = grind (arith)
 
 keeps_each_filled : (d end : ℕ) (moves : List Move) → IsFirstAfterRestart IsEmptyAfter d moves
     → EachLasts IsFilled (2 * d) (plan_of d end moves)
@@ -178,12 +176,12 @@ IsAgainOrLater n older b = IsAgainOf older b ⊎ ((a : Broadcast) → IsNewest o
 
 safe_first : (d : ℕ) (plan : List Broadcast) (b : Broadcast) → b.flag ≡ false → AreAfter IsTurned plan
     → IsSafeAfter d plan b.bytes → IsAgainOrLater (2 * d) plan b
-safe_first d plan b flag turned safe = grind (arith, nat_tests)
+safe_first d plan b flag turned safe = grind (arith)
 
 -- the newest broadcast has the last number
 last_number : (plan : List Broadcast) (a : Broadcast) → IsNewest plan a
     → (0 < length plan) × HasNumber plan (length plan - 1) a
-last_number plan a is = grind (arith, nat_tests)
+last_number plan a is = grind (arith)
 
 -- news is not again one of the two before it
 not_again : (older plan : List Broadcast) (l : ℕ) (b : Broadcast) → l ≡ length older
@@ -222,10 +220,10 @@ firsts_too P Q so d (Set x ∷ before) first = grind (arith, firsts_too P Q so d
 firsts_too P Q so d (x ∷ before) first = firsts_too P Q so d before first
 
 safe_is_harmless : (d : ℕ) (plan : List Broadcast) (x : List ℕ) → IsSafeAfter d plan x → IsHarmlessAfter plan x
-safe_is_harmless d plan x safe = grind (arith, nat_tests)
+safe_is_harmless d plan x safe = grind (arith)
 
 empty_is_safe : (d : ℕ) (plan : List Broadcast) (x : List ℕ) → IsEmptyAfter plan x → IsSafeAfter d plan x
-empty_is_safe d plan x after = grind (arith, nat_tests)
+empty_is_safe d plan x after = grind (arith)
 
 pub empty_is_enough : TheEmptyTextIsEnough
 empty_is_enough d moves first = firsts_too IsEmptyAfter (IsSafeAfter d) (empty_is_safe d) d moves first

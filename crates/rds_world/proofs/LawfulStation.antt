@@ -1,9 +1,7 @@
 -- Lemmas: the messages of an encoder are lawful for its plans. For each mark of its log there is the broadcast that was
 -- on air in that slot, and it stays planned whatever comes later.
-use Rattle.std.proofs.lemmas.Bool.Decides.{nat_tests}
-use Rattle.std.proofs.Common.{◌≡◌, ◌+◌, ◌-◌, ◌<◌, ◌≤◌, ℕ, List, [], ◌∷◌, ◌++◌, Bool, append_assoc, Option, Some}
-use Rattle.std.proofs.Common.{refl, sym, ap, ◌∙◌, subst, inl, inr, arith, length}
-use Rattle.std.specs.Prelude.{IfSome}
+use Rattle.std.proofs.Common.{◌≡◌, ◌+◌, ◌-◌, ◌<◌, ◌≤◌, ℕ, List, [], ◌∷◌, ◌++◌, Bool, append_assoc, Option, Some, refl}
+use Rattle.std.proofs.Common.{sym, ap, ◌∙◌, subst, inl, inr, arith, length, IfSome}
 use Rattle.std.specs.List.{AllByRecursion}
 use Rattle.rds_fields.specs.declared.message.Message.{Message}
 use Rattle.rds_fields.specs.declared.message.Message.TheVariants.{Text, Name, Tags}
@@ -66,7 +64,7 @@ logged_texts d (x ∷ before) = grind (arith, logged_texts d before)
 -- a free slot ended
 pub free_before : (told : List Entry) (s : ℕ) → IsFreeIn told s → s < slots_in told
 free_before [] s f = absurd f
-free_before (x ∷ before) s f = grind (arith, nat_tests, free_before before s)
+free_before (x ∷ before) s f = grind (arith, free_before before s)
 
 text_service : IsService IsText text_moves
 text_service = search (arith, logged_texts, longer)
@@ -112,7 +110,7 @@ module _ (IsValue : List ℕ → Type 0) (of : Option Message → Mark) (moves :
 
   began_by : (laws : EncoderLaws) (d : ℕ) (entries : List Entry) → EndsASlot entries
       → IfSome (on_air d (moves entries)) (λ (air : OnAir). air.start ≤ slot_of (moves entries) - 1)
-  began_by laws d entries ended = grind (arith, nat_tests)
+  began_by laws d entries ended = grind (arith)
 
   marked : (d : ℕ) (entries : List Entry) → length (marks of (sent_log d entries)) ≡ slot_of (moves entries)
   marked d entries = grind (arith, marks_long of (sent_log d entries))

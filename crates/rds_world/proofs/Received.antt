@@ -1,9 +1,8 @@
 -- Lemmas: the input of a receiver after one more slot, and one entry of a list after it was written.
 use Rattle.std.proofs.Common.{◌≡◌, ◌<◌, ℕ, zero, suc, Bool, true, false, List, [], ◌∷◌, Option, Some, None, refl, subst}
 use Rattle.std.proofs.Common.{◌||◌, take, arith, sym, ◌∙◌, ◌+◌, ◌≤◌, length, ◌⊎◌, ◌-◌, inl, inr, ◌≢◌, nat_eq, ◌++◌}
-use Rattle.std.proofs.Common.{drop, is_some, nat_lt}
+use Rattle.std.proofs.Common.{drop, is_some, nat_lt, slice_get, slice_index_or, slice_set, IfSome, Contains}
 use Rattle.std.specs.List.{AllByRecursion}
-use Rattle.std.specs.Prelude.{slice_get, slice_index_or, slice_set, IfSome, Contains}
 use Rattle.rds_block.specs.declared.group.Group.{Group}
 use Rattle.rds_fields.specs.declared.head.Head.{Head}
 use Rattle.rds_fields.specs.declared.message.Message.{Message}

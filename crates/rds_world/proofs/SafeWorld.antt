@@ -1,8 +1,7 @@
 -- Lemmas: the receivers of a world listen to its encoder, so their views are safe.
 use Rattle.std.proofs.Common.{◌≡◌, ◌+◌, ℕ, suc, false, List, [], ◌∷◌, Option, Some, None, refl, ◌∙◌, subst, arith}
-use Rattle.std.proofs.Common.{length}
-use Rattle.std.specs.List.{All, AllByRecursion, AllZip}
-use Rattle.std.specs.Prelude.{slice_get}
+use Rattle.std.proofs.Common.{length, All, slice_get}
+use Rattle.std.specs.List.{AllByRecursion, AllZip}
 use Rattle.std.proofs.lemmas.List.Elements.{All-from_recursion}
 use Rattle.rds_fields.specs.declared.message.Message.{Message}
 use Rattle.rds_receiver.specs.Receipts.{Tuning}

@@ -1,5 +1,4 @@
 -- Lemmas: the slots of a world are slots of a station, and their moves as texts alone, or names alone, see them.
-use Rattle.std.proofs.lemmas.Bool.Decides.{nat_tests}
 use Rattle.std.proofs.Common.{◌≡◌, ◌-◌, ◌<◌, ℕ, List, [], ◌∷◌, ◌++◌, length, refl, sym, ap, subst, arith}
 use Rattle.std.specs.List.{AllByRecursion}
 use Rattle.rds_encoder.specs.Entries.{Entry, Move, Begin, Set, End, name_moves, slot_of, text_moves}
@@ -102,4 +101,4 @@ pub events_are_lawful : TheEncoderIsLawful → (d : ℕ) (events : List Event) �
     → AreLawful d (plans_of d events) (log d events)
 events_are_lawful lawful d events some set =
     let same = slots_of_a_world d events set in
-    grind (arith, nat_tests)
+    grind (arith)

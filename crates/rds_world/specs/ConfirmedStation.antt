@@ -1,6 +1,5 @@
 -- The headline for receivers that get wrong groups and show only what they heard twice.
-use Rattle.std.specs.Prelude.{◌+◌, ◌<◌, ℕ, List}
-use Rattle.std.specs.List.{All}
+use Rattle.std.specs.Prelude.{◌+◌, ◌<◌, ℕ, List, All}
 use Rattle.rds_encoder.specs.Entries.{Entry}
 use Rattle.rds_encoder.specs.Sent.{sent_log}
 use Rattle.rds_safety.specs.Safe.{AreSafeViews, Listener}

@@ -1,7 +1,6 @@
 //! The world: a station and its receivers, slot by slot.
 ghost use Rattle.std.specs.Prelude.{◌≡◌, ◌≢◌, ◌+◌, ◌<◌, ◌≤◌, ◌↔◌, [], ◌∷◌, ℕ, IsErrOf, IsFalse, IsOk, IsSome, IfOk};
-ghost use Rattle.std.specs.Prelude.{IfSome, MatchResult, OnErr, OnOk, length, slice_get};
-ghost use Rattle.std.specs.Option.{option_copied};
+ghost use Rattle.std.specs.Prelude.{IfSome, MatchResult, OnErr, OnOk, length, slice_get, option_copied};
 ghost use Rattle.rds_assembly.specs.Value.{IsName, IsText};
 ghost use Rattle.rds_encoder.specs.Sent.{IsSent};
 ghost use Rattle.rds_receiver.specs.Shown.{ShownView};

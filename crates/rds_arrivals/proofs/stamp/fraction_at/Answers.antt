@@ -6,16 +6,16 @@ use Rattle.rds_arrivals.proofs.Fractions.{none_leads}
 use Rattle.rds_arrivals.proofs.stamp.fraction_at.Goals as goal
 
 pub loop-digit-init : goal.loop-digit-init
-loop-digit-init c = grind (arith, nat_tests, no_fraction)
+loop-digit-init c = grind (arith, no_fraction)
 
 pub overflow_mul-time : goal.overflow_mul-time
-overflow_mul-time c = grind (arith, nat_tests, light)
+overflow_mul-time c = grind (arith, light)
 
 pub overflow_add-time : goal.overflow_add-time
 overflow_add-time c =
     let (i, at, heavy) = c.loop-digit.invariant.next in
     let small = light i c.in-Some.digit c.in-Some.ensures.small in
-    grind (arith, nat_tests, below_a_second)
+    grind (arith, below_a_second)
 
 pub loop-digit-smaller : goal.loop-digit-smaller
 loop-digit-smaller c = omega (arith, c.in-Some.ensures.within)

@@ -1,5 +1,5 @@
 use Rattle.std.proofs.Common.{arith}
-use Rattle.rds_arrivals.proofs.Digits.{twelve}
+use Rattle.rds_arrivals.proofs.Fractions.{twelve}
 use Rattle.rds_arrivals.proofs.stamp.number_of.Goals as goal
 
 pub overflow_mul-number : goal.overflow_mul-number

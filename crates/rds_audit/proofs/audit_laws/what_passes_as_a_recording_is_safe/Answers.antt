@@ -1,5 +1,4 @@
 use Rattle.std.proofs.Common.{arith}
-use Rattle.std.proofs.lemmas.Bool.Decides.{nat_tests}
 use Rattle.rds_audit.specs.AuditLaws.{PlansOfARecordingAreSafe}
 use Rattle.rds_safety.specs.Laws.{LawfulPlansAreSafeByOwnClocksAs}
 use Rattle.rds_audit.proofs.PassedLogs.{by_form}
@@ -11,4 +10,4 @@ returns c =
     let by_plans : PlansOfARecordingAreSafe = safe_by_own_clocks
     (by_form LawfulPlansAreSafeByOwnClocksAs c.safe_by_plans.ensures.own_clocks
     c.safe_by_padded_plans.ensures.own_clocks) in
-    grind (arith, nat_tests, safe_by_own_clocks, by_form, safe_recording)
+    grind (arith, safe_by_own_clocks, by_form, safe_recording)

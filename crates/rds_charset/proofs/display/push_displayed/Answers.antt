@@ -1,6 +1,6 @@
 use Rattle.std.proofs.Common.{ℕ, arith, length-append, length, take, ap}
 use Rattle.std.proofs.lemmas.List.{length-take}
-use Rattle.rds_charset.proofs.DisplayedText.{length-displayed}
+use Rattle.rds_charset.proofs.PrintedText.{length-displayed}
 use Rattle.rds_charset.proofs.display.push_displayed.Goals as goal
 
 pub push_character-requires : goal.push_character-requires

@@ -1,4 +1,4 @@
-use Rattle.rds_charset.proofs.DisplayedText.{length-displayed}
+use Rattle.rds_charset.proofs.PrintedText.{length-displayed}
 use Rattle.rds_charset.proofs.laws.displayed_takes_three.Goals as goal
 
 pub returns : goal.returns

@@ -1,5 +1,4 @@
 use Rattle.std.proofs.Common.{arith}
-use Rattle.std.proofs.lemmas.Bool.Decides.{nat_tests}
 use Rattle.rds_charset.proofs.Symbols.{IsReadUpTo-length, StopsAt-rest}
 use Rattle.rds_charset.proofs.reading.count_bytes.Goals as goal
 
@@ -10,4 +9,4 @@ pub fault_at-requires : goal.fault_at-requires
 fault_at-requires c =
     let read = c.count_symbols-count.ensures.read in
     StopsAt-rest c.args.text.now read.0 c.count_symbols-count.result.1.now read.1 c.count_symbols-count.ensures.none
-    (grind (arith, nat_tests))
+    (grind (arith))

@@ -1,5 +1,4 @@
-use Rattle.std.proofs.Common.{◌≡◌, ℕ, List, length}
-use Rattle.std.specs.Str.{IsUtf8}
+use Rattle.std.proofs.Common.{◌≡◌, ℕ, List, length, IsUtf8}
 use Rattle.rds_charset.specs.ReadAs.{IsReadUpTo}
 use Rattle.rds_charset.proofs.reading.count_symbols.Given as goal
 

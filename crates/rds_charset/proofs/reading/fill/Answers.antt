@@ -1,4 +1,3 @@
-use Rattle.std.proofs.lemmas.Bool.Decides.{nat_tests}
 use Rattle.std.proofs.Common.{◌<◌, ℕ, length, take, arith}
 use Rattle.std.proofs.Math.ListN.{length-set}
 use Rattle.std.proofs.lemmas.Grind.{drop_more_same}
@@ -7,7 +6,7 @@ use Rattle.rds_charset.proofs.Symbols.{Begins-IsUtf8, Begins-length, IsReadAs-en
 use Rattle.rds_charset.proofs.reading.fill.Goals as goal
 
 pub loop-byte-init : goal.loop-byte-init
-loop-byte-init c = grind (arith, nat_tests)
+loop-byte-init c = grind (arith)
 
 pub bounds-into-count : goal.bounds-into-count
 bounds-into-count c = grind (arith, IsReadAs-step)

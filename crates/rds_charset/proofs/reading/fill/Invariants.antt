@@ -1,5 +1,4 @@
-use Rattle.std.proofs.Common.{◌≡◌, ◌+◌, ◌≤◌, ℕ, List, length, take, drop}
-use Rattle.std.specs.Str.{IsUtf8}
+use Rattle.std.proofs.Common.{◌≡◌, ◌+◌, ◌≤◌, ℕ, List, length, take, drop, IsUtf8}
 use Rattle.rds_charset.specs.ReadAs.{IsReadAs, IsReadUpTo}
 use Rattle.rds_charset.proofs.reading.fill.Given as goal
 

@@ -1,15 +1,12 @@
-use Rattle.std.proofs.lemmas.Bool.Decides.{nat_tests}
-use Rattle.std.proofs.Common.{◌<◌, ◌∙◌, ◌-◌, length, arith}
-use Rattle.std.specs.Str.{chars}
-use Rattle.rds_charset.proofs.Stopping.{before_and_after, some_bytes, some_character}
-use Rattle.rds_charset.proofs.Symbols.{IsReadUpTo-drop, StopsAt-rest}
+use Rattle.std.proofs.Common.{◌<◌, ◌∙◌, ◌-◌, length, arith, chars}
+use Rattle.rds_charset.proofs.Symbols.{before_and_after, some_bytes, some_character, IsReadUpTo-drop, StopsAt-rest}
 use Rattle.rds_charset.proofs.reading.measure_text.Goals as goal
 
 pub overflow_sub-place : goal.overflow_sub-place
-overflow_sub-place c = grind (arith, nat_tests, before_and_after)
+overflow_sub-place c = grind (arith, before_and_after)
 
 pub overflow_add-place : goal.overflow_add-place
-overflow_add-place c = grind (arith, nat_tests, before_and_after, some_character)
+overflow_add-place c = grind (arith, before_and_after, some_character)
 
 pub returns-clause-err : goal.returns-clause-err
 returns-clause-err c =

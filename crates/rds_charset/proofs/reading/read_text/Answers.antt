@@ -1,6 +1,6 @@
 use Rattle.std.proofs.Common.{Ok, Err, length, rules}
-use Rattle.rds_charset.proofs.Outcomes.{Outcome-bad_escape, Outcome-filled, Outcome-no_room, Outcome-no_such_character}
-use Rattle.rds_charset.proofs.Outcomes.{Outcome-read, Outcome-short, Outcome-stopped}
+use Rattle.rds_charset.proofs.Symbols.{Outcome-bad_escape, Outcome-filled, Outcome-no_room, Outcome-no_such_character}
+use Rattle.rds_charset.proofs.Symbols.{Outcome-read, Outcome-short, Outcome-stopped}
 use Rattle.rds_charset.specs.declared.reading.TextFault.TheVariants.{NoRoom}
 use Rattle.rds_charset.proofs.reading.read_text.Goals as goal
 

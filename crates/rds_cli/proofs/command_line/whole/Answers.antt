@@ -1,5 +1,4 @@
 use Rattle.std.proofs.Common.{arith, ◌≡◌, IfOk, Ok, Result, codes, subst}
-use Rattle.std.proofs.lemmas.Bool.Decides.{nat_tests}
 use Rattle.clap.specs.Words.{App, Shape, app_of, with_subcommand}
 use Rattle.rds_cli.specs.CommandLine.{audit_app, decode_app, log_readers_app, sim_app, slots_app, station_app}
 use Rattle.rds_cli.specs.CommandLine.{with_decode_app, without_sim_app, witness_app}
@@ -9,7 +8,7 @@ use Rattle.rds_cli.proofs.command_line.whole.Goals as goal
 one_more : {X E : Type 0} (view : X → App) (r : Result X E) (m c : X) (before : App) (sub : Shape)
     → r ≡ Ok m → IfOk r (λ x. view x ≡ with_subcommand (view c) sub) → view c ≡ before
     → view m ≡ with_subcommand before sub
-one_more view r m c before sub was holds is = grind (arith, nat_tests)
+one_more view r m c before sub was holds is = grind (arith)
 
 pub returns : goal.returns
 unfolding log_readers_app

@@ -1,6 +1,5 @@
-use Rattle.std.proofs.Common.{arith, ◌≡◌, ◌∙◌, Option, None, Some, ap, inl, inr, map, not, subst, sym}
-use Rattle.std.proofs.lemmas.Bool.Decides.{nat_tests}
-use Rattle.std.specs.Prelude.{option_and_then, option_map}
+use Rattle.std.proofs.Common.{arith, ◌≡◌, ◌∙◌, Option, None, Some, ap, inl, inr, map, not, subst, sym, option_and_then}
+use Rattle.std.proofs.Common.{option_map}
 use Rattle.std.specs.Box.{box_value}
 use Rattle.std.proofs.lemmas.Bool.{not-true}
 use Rattle.clap.specs.Words.{App, HasKind, fault_of, found_of, is_simple, is_simple_and_free, kind_of, rows_of}
@@ -37,11 +36,11 @@ returns-in-Err-clause-err c none =
 both_parts : {A B C : Type 0} (f : A → B) (g : A → C) (o : Option A) (x : B) (y : C) → Some x ≡ option_map f o
     → Some y ≡ option_map (λ (p : B × C). p.1) (option_map {U = B × C} (λ a. (f a, g a)) o)
     → option_map {U = B × C} (λ a. (f a, g a)) o ≡ Some (x, y)
-both_parts f g o x y p q = grind (arith, nat_tests)
+both_parts f g o x y p q = grind (arith)
 
 -- no part of what is not there
 no_part : {A B C : Type 0} (f : A → B) (g : A → C) (o : Option A) → None ≡ option_map f o → option_map g o ≡ None
-no_part f g o p = grind (arith, nat_tests)
+no_part f g o p = grind (arith)
 
 pub returns-in_default-clause-ok : goal.returns-in_default-clause-ok
 unfolding log_app decode_app late_app station_app sim_app slots_app timed_app judging_app audit_app log_readers_app

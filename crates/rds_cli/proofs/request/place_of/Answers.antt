@@ -1,6 +1,4 @@
-use Rattle.std.proofs.lemmas.Bool.Decides.{nat_tests}
-use Rattle.std.proofs.Common.{◌≡◌, ◌∙◌, ◌-◌, ap, arith, sym}
-use Rattle.std.specs.Prelude.{option_and_then}
+use Rattle.std.proofs.Common.{◌≡◌, ◌∙◌, ◌-◌, ap, arith, sym, option_and_then}
 use Rattle.std.specs.Str.Parse.{ExplainsUnsignedError, HasUnsignedDigitsIfOk, ParsesUnsigned}
 use Rattle.clap.specs.Words.{found_of, rows_of}
 use Rattle.rds_cli.specs.CommandLine.{option_number}
@@ -23,4 +21,4 @@ returns g c =
     read_option 8 0 (g.row.N - 1) (λ bs r. ParsesUnsigned 8 10 bs r × ExplainsUnsignedError 10 bs r
     × HasUnsignedDigitsIfOk bs r) (found_of c.args.inner.now) c.args.name.now c.get_one.result
     c.get_one.ensures.none c.get_one.ensures.value (λ t x g. g.0) (omega (arith, g.N.fits)) in
-    grind (arith, nat_tests)
+    grind (arith)

@@ -1,5 +1,4 @@
 use Rattle.std.proofs.Common.{arith, ℕ, Option, Some}
-use Rattle.std.proofs.lemmas.Bool.Decides.{nat_tests}
 use Rattle.std.specs.Option.{option_map_or}
 use Rattle.clap.specs.Words.{Text}
 use Rattle.clap.proofs.WalkLemmas.{first_value-rows}
@@ -11,7 +10,7 @@ abbrev given : Option Text → Option ℕ
 given o = option_map_or group_named o (Some 11)
 
 pub returns-in-Some : goal.returns-in-Some
-returns-in-Some c = grind (arith, nat_tests, first_value-rows)
+returns-in-Some c = grind (arith, first_value-rows)
 
 pub returns-in-None : goal.returns-in-None
-returns-in-None c = grind (arith, nat_tests, first_value-rows)
+returns-in-None c = grind (arith, first_value-rows)

@@ -1,4 +1,3 @@
-use Rattle.std.proofs.lemmas.Bool.Decides.{nat_tests}
 use Rattle.std.proofs.Common.{◌+◌, ◌*◌, ◌/◌, arith, get_or, refl}
 use Rattle.rds_io.proofs.SpreadDigits.{shows, spread}
 use Rattle.rds_io.proofs.hexadecimal.digits_of_four.Goals as goal
@@ -19,4 +18,4 @@ returns c =
     t.rest in
     let v = shows (n / 256 / 256 / 256 / 256 / 256 / 256 / 256 / 256 / 256 / 256 / 256 / 256) d 0
     (omega (arith, c.element_fits4.fits)) (rw u.rest refl) in
-    grind (arith, nat_tests)
+    grind (arith)

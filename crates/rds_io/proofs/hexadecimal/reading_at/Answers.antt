@@ -1,4 +1,3 @@
-use Rattle.std.proofs.lemmas.Bool.Decides.{nat_tests}
 use Rattle.std.proofs.Common.{◌≡◌, ◌+◌, ◌*◌, ℕ, arith}
 use Rattle.rds_io.proofs.Digits.{has_no_word, has_word}
 use Rattle.rds_io.proofs.hexadecimal.reading_at.Goals as goal
@@ -11,10 +10,10 @@ pub overflow_add-result : goal.overflow_add-result
 overflow_add-result c = omega (arith, c.value_of-first.ensures.small, c.value_of-second.ensures.small)
 
 pub overflow_add-result-2 : goal.overflow_add-result-2
-overflow_add-result-2 c = grind (arith, nat_tests)
+overflow_add-result-2 c = grind (arith)
 
 pub overflow_add-result-3 : goal.overflow_add-result-3
-overflow_add-result-3 c = grind (arith, nat_tests)
+overflow_add-result-3 c = grind (arith)
 
 pub returns-clause-word : goal.returns-clause-word
 returns-clause-word c small = search (arith, sum_of, has_word)

@@ -1,5 +1,5 @@
 use Rattle.std.proofs.Common.{◌≡◌, ◌+◌, ◌*◌, ◌<◌, ◌≤◌, ◌∙◌, ℕ, arith, length, refl, sym}
-use Rattle.rds_lines.proofs.NearEnd.{ends_near, feeds_of_lanes, no_feeds}
+use Rattle.rds_lines.proofs.Cutting.{ends_near, feeds_of_lanes, no_feeds}
 use Rattle.rds_lines.proofs.cutter.near_end.Goals as goal
 
 -- the lanes from a place on are there, since there are as many bytes as are near

@@ -1,5 +1,5 @@
 use Rattle.std.proofs.Common.{[]}
-use Rattle.rds_lines.proofs.KeptSlots.{keeps_none}
+use Rattle.rds_lines.proofs.Runs.{keeps_none}
 use Rattle.rds_lines.proofs.gather_log.gather.Goals as goal
 
 pub loop-told-init : goal.loop-told-init

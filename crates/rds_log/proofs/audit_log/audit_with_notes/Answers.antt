@@ -1,9 +1,8 @@
-use Rattle.std.proofs.Common.{arith}
-use Rattle.std.specs.Prelude.{Ok, false, true}
+use Rattle.std.proofs.Common.{arith, Ok, false, true}
 use Rattle.std.proofs.lemmas.Result.{err_from_is_err_and}
 use Rattle.rds_io.specs.Told.{traffic}
 use Rattle.rds_log.proofs.Audited.{before_yes, finds, loses_yes, says_yes, stops}
-use Rattle.rds_log.proofs.Meaning.{meaning}
+use Rattle.rds_log.proofs.Decodes.{meaning}
 use Rattle.rds_log.proofs.audit_log.audit_with_notes.Goals as goal
 
 pub returns-in_err-ended-clause-audits : goal.returns-in_err-ended-clause-audits

@@ -1,4 +1,4 @@
-use Rattle.rds_log.proofs.OneOutput.{alike, same_output}
+use Rattle.rds_log.proofs.Decodes.{alike, same_output}
 use Rattle.rds_lines.specs.OneLog.{same_said}
 use Rattle.rds_log.proofs.laws.bytes_write_one_output.Goals as goal
 

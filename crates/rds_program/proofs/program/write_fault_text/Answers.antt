@@ -1,5 +1,4 @@
-use Rattle.std.proofs.Common.{◌≡◌, ◌++◌, refl}
-use Rattle.std.specs.Prelude.{codes}
+use Rattle.std.proofs.Common.{◌≡◌, ◌++◌, refl, codes}
 use Rattle.rds_program.specs.Run.{mark_of}
 use Rattle.rds_program.proofs.program.write_fault_text.Goals as goal
 

@@ -1,5 +1,4 @@
-use Rattle.std.proofs.Common.{◌≡◌, ◌++◌, ℕ, List, ap}
-use Rattle.std.specs.Prelude.{codes, decimal}
+use Rattle.std.proofs.Common.{◌≡◌, ◌++◌, ℕ, List, ap, codes, decimal}
 use Rattle.std.proofs.lemmas.List.{append_assoc}
 use Rattle.rds_program.specs.Run.{mark_of}
 use Rattle.rds_program.proofs.program.write_numbered_fault.Goals as goal

@@ -1,5 +1,4 @@
-use Rattle.std.proofs.Common.{◌≡◌, map, take}
-use Rattle.std.specs.Prelude.{string_bytes}
+use Rattle.std.proofs.Common.{◌≡◌, map, take, string_bytes}
 use Rattle.rds_program.proofs.words.texts.Given as goal
 
 abbrev pub invariant-loop-word : goal.invariant-loop-word

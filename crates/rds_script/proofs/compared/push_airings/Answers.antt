@@ -13,8 +13,7 @@ use Rattle.rds_script.specs.declared.airing.Airings.{Airings}
 use Rattle.rds_script.specs.Inside.Compared.{AirsStand, WereBefore, WereKept, airings_at, all_on_air}
 use Rattle.rds_script.specs.OnAir.{airings}
 use Rattle.rds_script.specs.Outcomes.{airings_change, view_at}
-use Rattle.rds_script.proofs.Changes.{at_last}
-use Rattle.rds_script.proofs.AiringLines.{next_airings, no_airings, none_before, still_before}
+use Rattle.rds_script.proofs.OneOutcome.{at_last, next_airings, no_airings, none_before, still_before}
 use Rattle.rds_script.proofs.compared.push_airings.Goals as goal
 use Rattle.rds_script.proofs.compared.push_airings.Goals.{else-changed, then-changed}
 

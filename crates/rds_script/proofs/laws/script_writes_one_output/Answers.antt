@@ -1,4 +1,4 @@
-use Rattle.rds_script.proofs.OneScript.{alike, plays_bytes, same_script}
+use Rattle.rds_script.proofs.OneOutcome.{alike, plays_bytes, same_script}
 use Rattle.rds_script.proofs.laws.script_writes_one_output.Goals as goal
 
 pub returns-clause-one_output : goal.returns-clause-one_output

@@ -1,6 +1,6 @@
 use Rattle.std.proofs.Common.{◌≡◌, ◌∷◌, false, refl, rules, true}
 use Rattle.csv.specs.Records.{fields_of}
-use Rattle.rds_script.proofs.Plays.{has_records}
+use Rattle.rds_script.proofs.PlayedRows.{has_records}
 use Rattle.rds_script.proofs.play.play_next.Goals as goal
 
 pub returns-then-not-branch-clause-plays : goal.returns-then-not-branch-clause-plays

@@ -2,8 +2,8 @@ use Rattle.std.proofs.Common.{◌∙◌, ◌∷◌, ◌+◌, Ok, ap, arith, refl
 use Rattle.std.proofs.lemmas.Result.{err_from_is_err_and}
 use Rattle.csv.specs.Records.{fields_of}
 use Rattle.rds_io.specs.ReadFailed.{SomeReadFailed}
-use Rattle.rds_script.proofs.Plays.{ends_all, ends_by_fault, ends_by_write, ends_too_long, not_more, played_on}
-use Rattle.rds_script.proofs.Plays.{waits_now, where_next}
+use Rattle.rds_script.proofs.PlayedRows.{ends_all, ends_by_fault, ends_by_write, ends_too_long, not_more, played_on}
+use Rattle.rds_script.proofs.PlayedRows.{waits_now, where_next}
 use Rattle.rds_script.proofs.play.play_rows.Goals as goal
 use Rattle.rds_script.proofs.play.play_rows.Goals.{then-not-has_next+in_ok-write, else-not-has_next+else-not-has_room}
 

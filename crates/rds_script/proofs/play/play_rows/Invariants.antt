@@ -1,6 +1,5 @@
-use Rattle.std.proofs.Common.{◌≡◌, ◌+◌, ◌≤◌, [], List, length}
+use Rattle.std.proofs.Common.{◌≡◌, ◌+◌, ◌≤◌, [], List, length, ℕ, Option}
 use Rattle.rds_io.specs.Told.{traffic}
-use Rattle.std.specs.Prelude.{ℕ, Option}
 use Rattle.rds_script.specs.declared.play.Playing.{Playing}
 use Rattle.rds_script.specs.Inside.Player.{PlayedSoFar, PlayerStandsAt, ScriptStandsAt, nothing_played}
 use Rattle.rds_script.specs.Rows.{Record}

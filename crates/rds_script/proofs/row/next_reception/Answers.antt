@@ -1,3 +1,4 @@
+use Rattle.std.proofs.Common.{arith}
 use Rattle.rds_script.proofs.Receptions.{digit_cut, no_other}
 use Rattle.rds_script.proofs.row.next_reception.Goals as goal
 
@@ -11,7 +12,4 @@ returns-in_err-reception_of-clause-none c =
 
 pub returns-clause-some : goal.returns-clause-some
 returns-clause-some c =
-    let count = c.digits_in_front.ensures in
-    let cut = digit_cut c.args.after.now c.split_at.result.0.now c.split_at.result.1.now c.digits_in_front.result
-    count.within count.digits count.ends c.split_at.ensures.front c.split_at.ensures.back in
-    (c.split_at.result.0.now, cut, c.in_ok-reception_of.ensures.some.0, c.in_ok-reception_of.ensures.some.1)
+    search (arith, digit_cut, c.digits_in_front.ensures, c.split_at.ensures.front, c.split_at.ensures.back, c.in_ok-reception_of.ensures.some.0, c.in_ok-reception_of.ensures.some.1)

@@ -4,7 +4,8 @@ use Rattle.rds_world.specs.Slots.{input_of}
 use Rattle.rds_world.specs.State.{distance}
 use Rattle.rds_view_lines.specs.KeptView.{view_kept}
 use Rattle.rds_script.specs.Outcomes.{whys_at}
-use Rattle.rds_script.proofs.Changes.{at_last, at_set, next_changes, no_changes, none_changes, other_set, stay_changes}
+use Rattle.rds_script.proofs.OneOutcome.{at_last, at_set, next_changes, no_changes, none_changes, other_set}
+use Rattle.rds_script.proofs.OneOutcome.{stay_changes}
 use Rattle.rds_script.proofs.PlayedRows.{still_shown}
 use Rattle.rds_script.proofs.watched.push_views.Goals as goal
 

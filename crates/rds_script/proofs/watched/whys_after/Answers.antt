@@ -1,5 +1,5 @@
 use Rattle.std.proofs.Common.{inl, inr}
-use Rattle.rds_script.proofs.NotShown.{whys_heard}
+use Rattle.rds_script.proofs.Periods.{whys_heard}
 use Rattle.rds_script.proofs.watched.whys_after.Goals as goal
 
 pub returns-in-Got : goal.returns-in-Got

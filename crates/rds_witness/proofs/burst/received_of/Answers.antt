@@ -1,16 +1,14 @@
-use Rattle.std.proofs.lemmas.Bool.Decides.{nat_tests}
-use Rattle.std.proofs.Common.{◌≡◌, arith}
+use Rattle.std.proofs.Common.{◌≡◌, arith, length}
 use Rattle.std.proofs.Math.Seq.{take-length}
 use Rattle.std.proofs.lemmas.List.{with_items_is}
-use Rattle.std.specs.Prelude.{length}
 use Rattle.rds_witness.proofs.Rulings.{burst_more}
 use Rattle.rds_witness.proofs.burst.received_of.Goals as goal
 
 pub loop-place-init : goal.loop-place-init
-loop-place-init c = grind (arith, nat_tests)
+loop-place-init c = grind (arith)
 
 pub loop-place-preserved : goal.loop-place-preserved
-loop-place-preserved c = grind (arith, nat_tests, with_items_is, burst_more)
+loop-place-preserved c = grind (arith, with_items_is, burst_more)
 
 pub returns : goal.returns
 returns c =

@@ -1,4 +1,3 @@
-use Rattle.std.proofs.lemmas.Bool.Decides.{nat_tests}
 use Rattle.std.proofs.Common.{◌≡◌, arith}
 use Rattle.rds_witness.specs.Lost.{got-none}
 use Rattle.rds_witness.proofs.Mixes.{stands_more}
@@ -13,4 +12,4 @@ loop-n-preserved c = stands_more _ _ _ _ _ _ c.received.ensures (c.slot_blocks.e
 pub returns : goal.returns
 returns c =
     let end : c.loop-n.n ≡ c.args.slot = omega (arith, c.loop-n.auto.n-end, c.loop-n-test.false) in
-    grind (arith, nat_tests)
+    grind (arith)

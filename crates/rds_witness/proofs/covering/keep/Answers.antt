@@ -1,5 +1,4 @@
-use Rattle.std.proofs.Common.{◌∷◌, arith, refl}
-use Rattle.std.specs.List.{Contains}
+use Rattle.std.proofs.Common.{◌∷◌, arith, refl, Contains}
 use Rattle.std.proofs.lemmas.List.Elements.{All-push}
 use Rattle.rds_receiver.specs.Receipts.{tuned}
 use Rattle.rds_witness.specs.Search.{IsChecked}

@@ -1,4 +1,3 @@
-use Rattle.std.proofs.lemmas.Bool.Decides.{nat_tests}
 use Rattle.std.proofs.Common.{◌≡◌, ◌+◌, ◌∷◌, arith, get_or, inl, inr}
 use Rattle.std.proofs.lemmas.Bool.{cases_lt}
 use Rattle.rds_receiver.specs.Receipts.{tuned}
@@ -7,7 +6,7 @@ use Rattle.rds_witness.proofs.HeldParts.{at_next, covers_next}
 use Rattle.rds_witness.proofs.covering.keep_after_slot.Goals as goal
 
 pub loop-place-init : goal.loop-place-init
-loop-place-init c = grind (arith, nat_tests)
+loop-place-init c = grind (arith)
 
 pub loop-place-preserved : goal.loop-place-preserved
 loop-place-preserved c =

@@ -1,3 +1,4 @@
+use Rattle.std.proofs.Common.{arith}
 use Rattle.rds_receiver.specs.Receipts.{tuned}
 use Rattle.rds_witness.specs.Lost.{got-none}
 use Rattle.rds_witness.proofs.Mixes.{adds_first}
@@ -12,7 +13,5 @@ loop-slot-init c =
     }
 
 pub loop-slot-preserved : goal.loop-slot-preserved
-loop-slot-preserved c = record {
-  stands = c.play_slot.ensures.stands;
-  lines = c.in_ok-play_slot.ensures.lines c.loop-slot.invariant.lines;
-}
+loop-slot-preserved c =
+    grind (arith, c.play_slot.ensures.stands, c.in_ok-play_slot.ensures.lines, c.loop-slot.invariant.lines)

@@ -1,6 +1,4 @@
-use Rattle.std.proofs.Common.{arith, Bool, List, Result, ℕ}
-use Rattle.std.proofs.lemmas.Bool.Decides.{nat_tests}
-use Rattle.std.specs.Prelude.{IsErr}
+use Rattle.std.proofs.Common.{arith, Bool, List, Result, ℕ, IsErr}
 use Rattle.rds_io.specs.Told.{Traffic}
 use Rattle.rds_io.specs.declared.told.WriteFault.{WriteFault}
 use Rattle.rds_witness.specs.Witness.{Answers, WrotePartOfAnswer}
@@ -8,7 +6,7 @@ use Rattle.rds_witness.proofs.lose_log.write_lines.Goals as goal
 
 part_of : (Is : Bool → List ℕ → Type 0) (w : Traffic) (r : Result Bool WriteFault) → IsErr r → WrotePartOfAnswer Is w
     → Answers Is w r
-part_of Is w r fails part = grind (arith, nat_tests)
+part_of Is w r fails part = grind (arith)
 
 pub returns-in_err-put : goal.returns-in_err-put
 returns-in_err-put g c t ahead log lost are =

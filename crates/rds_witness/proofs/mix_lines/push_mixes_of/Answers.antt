@@ -1,6 +1,4 @@
-use Rattle.std.proofs.lemmas.Bool.Decides.{nat_tests}
-use Rattle.std.proofs.Common.{◌∙◌, ap, arith, sym}
-use Rattle.std.specs.Prelude.{option_map}
+use Rattle.std.proofs.Common.{◌∙◌, ap, arith, sym, option_map}
 use Rattle.rds_receiver.specs.Receipts.{tuned}
 use Rattle.rds_receiver.specs.Borrowed.{view_of}
 use Rattle.rds_witness.specs.Borrowed.{thing_of}
@@ -9,7 +7,7 @@ use Rattle.rds_witness.proofs.mix_lines.push_mixes_of.Goals as goal
 use Rattle.rds_witness.proofs.mix_lines.push_mixes_of.Goals.{in-Some, in_default}
 
 pub loop-kind-init : goal.loop-kind-init
-loop-kind-init c = grind (arith, nat_tests)
+loop-kind-init c = grind (arith)
 
 pub loop-kind-preserved : goal.loop-kind-preserved
 loop-kind-preserved c = elim c.match-of_kind.branch [
@@ -31,4 +29,4 @@ loop-kind-preserved c = elim c.match-of_kind.branch [
 ]
 
 pub returns : goal.returns
-returns c = grind (arith, nat_tests)
+returns c = grind (arith)

@@ -13,18 +13,7 @@ use Rattle.std.proofs.lemmas.List.Elements.{All-nil}
 use Rattle.rds_witness.proofs.search.find.Goals as goal
 
 pub loop-slot-init : goal.loop-slot-init
-loop-slot-init c =
-    let t = tuned c.args.pi c.args.dwell in
-    let log = c.args.log.now in
-    let k = until c.args.dwell log 0 in
-    let none : (items : List Lossy) → items ≡ [] → ShowOnlySeen t log k items =
-    λ items nothing. rw nothing (All-nil (λ s. ShowsOnlySeen t log k s.receiver)) in
-    record {
-      stands = c.new-sweep.ensures.stands log;
-      losing = none _ c.new-sweep.ensures.none.0;
-      hearing = none _ c.new-sweep.ensures.none.1;
-      none = λ burst slot thing less. absurd (omega arith);
-    }
+loop-slot-init c = grind (arith, tuned, until)
 
 pub loop-slot-preserved : goal.loop-slot-preserved
 loop-slot-preserved c =

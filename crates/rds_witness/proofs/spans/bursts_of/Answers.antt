@@ -1,5 +1,4 @@
-use Rattle.std.proofs.Common.{◌+◌, ◌∙◌, Option, Some, ap, arith, length, sym}
-use Rattle.std.specs.Prelude.{option_and_then, option_map}
+use Rattle.std.proofs.Common.{◌+◌, ◌∙◌, Option, Some, ap, arith, length, sym, option_and_then, option_map}
 use Rattle.rds_witness.specs.Spans.{SpanReading, span_ended, read-none}
 use Rattle.rds_witness.proofs.SpanSteps.{none_on, read_bad, read_good}
 use Rattle.rds_witness.proofs.spans.bursts_of.Goals as goal
@@ -8,9 +7,7 @@ pub loop-place-init : goal.loop-place-init
 loop-place-init c = read-none c.args.text.now ∙ ap Some (sym c.new-reader.ensures)
 
 pub loop-place-preserved : goal.loop-place-preserved
-loop-place-preserved c =
-    read_good c.args.text.now c.loop-place.place _ c.byte.new.self c.in_ok-byte.field-0 c.loop-place.invariant
-    c.in_ok-byte.ensures c.if-not-branch.false
+loop-place-preserved c = search (arith, read_good, c.loop-place.invariant, c.in_ok-byte.ensures, c.if-not-branch.false)
 
 pub returns-then-not-branch : goal.returns-then-not-branch
 returns-then-not-branch c =

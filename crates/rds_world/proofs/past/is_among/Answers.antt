@@ -1,7 +1,4 @@
-use Rattle.std.proofs.lemmas.Bool.Decides.{nat_tests}
-use Rattle.std.proofs.Common.{◌≡◌, Some, true, arith, ◌∙◌, ap, sym}
-use Rattle.std.specs.Option.{option_copied}
-use Rattle.std.specs.Prelude.{slice_get}
+use Rattle.std.proofs.Common.{◌≡◌, Some, true, arith, ◌∙◌, ap, sym, option_copied, slice_get}
 use Rattle.std.proofs.lemmas.Option.{get_or_from_slice_get, slice_get_read}
 use Rattle.rds_fields.specs.contracts.message.MessagePartialEq.TheImpl.{eq-value}
 use Rattle.rds_fields.specs.declared.message.Message.{Message}
@@ -15,7 +12,7 @@ returns-in-Some-Some c =
     let at : slice_get c.args.wrong.now.items c.loop-i.i ≡ Some (Some message) =
     sym c.get.ensures ∙ ap option_copied c.in-Some-Some.is ∙ ap Some c.in-Some-Some.field-0-is
     ∙ ap (λ (x : Message). Some (Some x)) (same_by_test c.in-Some-Some.before message test) in
-    grind (arith, nat_tests, same_by_test, get_or_from_slice_get)
+    grind (arith, same_by_test, get_or_from_slice_get)
 
 pub returns : goal.returns
-returns c = grind (arith, nat_tests, slice_get_read)
+returns c = grind (arith, slice_get_read)

@@ -1,5 +1,4 @@
-use Rattle.std.proofs.Common.{◌≡◌, ◌<◌, ℕ, Some}
-use Rattle.std.specs.Prelude.{slice_get}
+use Rattle.std.proofs.Common.{◌≡◌, ◌<◌, ℕ, Some, slice_get}
 use Rattle.rds_world.proofs.past.is_among.Given as goal
 
 abbrev pub invariant-loop-i : goal.invariant-loop-i

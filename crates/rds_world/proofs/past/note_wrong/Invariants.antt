@@ -1,5 +1,4 @@
-use Rattle.std.proofs.Common.{◌≡◌, ◌<◌, ◌≤◌, ℕ, List, Option, Some, length, take}
-use Rattle.std.specs.Prelude.{slice_get, slice_index_or}
+use Rattle.std.proofs.Common.{◌≡◌, ◌<◌, ◌≤◌, ℕ, List, Option, Some, length, take, slice_get, slice_index_or}
 use Rattle.circular_buffer.specs.Buffer.{Buffer, buffer}
 use Rattle.rds_fields.specs.declared.message.Message.{Message}
 use Rattle.rds_world.specs.declared.event.Reception.TheVariants.{Lost}

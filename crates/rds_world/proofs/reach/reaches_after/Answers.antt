@@ -1,15 +1,11 @@
 use Rattle.circular_buffer.proofs.Places.{slice_get-set_other}
-use Rattle.std.proofs.Common.{◌≡◌, Some, length, List, ap, arith, inl, inr}
-use Rattle.std.specs.Prelude.{slice_get}
+use Rattle.std.proofs.Common.{◌≡◌, Some, length, List, ap, arith, inl, inr, slice_get}
 use Rattle.std.proofs.lemmas.Bool.{cases_lt}
 use Rattle.std.proofs.lemmas.Option.{slice_get_read}
 use Rattle.rds_world.specs.declared.event.Reception.{Reception}
 use Rattle.rds_world.specs.Due.{last_named}
 use Rattle.rds_world.proofs.Received.{due_past, named_past, same_reception, of_first, written}
 use Rattle.rds_world.proofs.reach.reaches_after.Goals as goal
-
-pub loop-i-init : goal.loop-i-init
-loop-i-init c = grind arith
 
 pub returns-in_default-clause-due : goal.returns-in_default-clause-due
 returns-in_default-clause-due c before have = grind (arith, slice_get_read, same_reception)

@@ -1,5 +1,4 @@
-use Rattle.std.proofs.Common.{◌≡◌, ◌+◌, ◌<◌, ℕ, List, Some, length}
-use Rattle.std.specs.Prelude.{slice_get, slice_index_or}
+use Rattle.std.proofs.Common.{◌≡◌, ◌+◌, ◌<◌, ℕ, List, Some, length, slice_get, slice_index_or}
 use Rattle.rds_world.specs.declared.event.Reception.TheVariants.{Lost}
 use Rattle.rds_world.specs.Due.{IsDueTo, last_named, named, reach_of}
 use Rattle.rds_world.specs.Event.{Event}

@@ -1,17 +1,12 @@
 use Rattle.circular_buffer.proofs.Places.{slice_get-set_other}
 use Rattle.std.proofs.lemmas.List.{get_or-set_other, get_or-set_same, get_or_default, length-set}
-use Rattle.std.proofs.lemmas.Bool.Decides.{nat_tests}
-use Rattle.std.proofs.Common.{◌≡◌, ◌∙◌, Some, arith, true, inl, inr, length, sym}
+use Rattle.std.proofs.Common.{◌≡◌, ◌∙◌, Some, arith, true, inl, inr, length, sym, slice_get, slice_index_or}
 use Rattle.std.proofs.lemmas.Bool.{cases_lt}
-use Rattle.std.specs.Prelude.{slice_get, slice_index_or}
 use Rattle.std.proofs.lemmas.Option.{slice_get-get_or, slice_get_within}
 use Rattle.rds_receiver.specs.declared.receiver.Receiver.{Receiver}
 use Rattle.rds_world.specs.declared.event.Reception.TheVariants.{Lost}
 use Rattle.rds_world.proofs.Received.{both_fail, marked, written}
 use Rattle.rds_world.proofs.receivers.hand_out.Goals as goal
-
-pub loop-i-init : goal.loop-i-init
-loop-i-init c = grind arith
 
 pub loop-i-preserved : goal.loop-i-preserved
 loop-i-preserved c =
@@ -47,7 +42,7 @@ loop-i-preserved c =
           elim (cases_lt k i) [
             | inl less ↦ c.loop-i.invariant.same slot sent inputs last kept due all k less
                 (sym (get_or-set_other c.loop-i.each i k c.receive-changed.result true (λ e. omega arith)) ∙ is)
-            | inr more ↦ grind (arith, nat_tests, marked)
+            | inr more ↦ grind (arith, marked)
           ];
       eight = length-set _ _ _ ∙ c.loop-i.invariant.eight;
       any = λ every k below.

@@ -1,4 +1,3 @@
-use Rattle.std.proofs.lemmas.Bool.Decides.{nat_tests}
 use Rattle.std.proofs.Common.{arith, ◌-◌, None, Some, refl, subst}
 use Rattle.rds_receiver.specs.Receipts.{Hears}
 use Rattle.rds_world.specs.Due.{IsDue}
@@ -14,7 +13,7 @@ returns-in-Got-clause-heard c slot sent input last kept due has =
     let is_due = subst (λ (r : Reception). IsDue config.late slot last r) c.in-Got.is due in
     let hears : Hears config.head.pi c.back_from.result (sent_back back sent) = rw c.back_from.ensures
     (kept back is_due.soon) in
-    grind (arith, nat_tests, hears_more)
+    grind (arith, hears_more)
 
 pub returns-in-Lost-clause-heard : goal.returns-in-Lost-clause-heard
 returns-in-Lost-clause-heard c slot sent input last kept due has = rw c.in-Lost.is (hears_more c.args.config.now input _

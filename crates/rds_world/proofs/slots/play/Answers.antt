@@ -1,8 +1,7 @@
 use Rattle.std.proofs.Common.{arith, [], ◌≡◌, ◌+◌, ◌<◌, ℕ, List, ◌∷◌, length, reverse, take, ◌∙◌, subst, refl}
-use Rattle.std.proofs.Common.{below_more}
+use Rattle.std.proofs.Common.{below_more, ◌≤◌, slice_index_or}
 use Rattle.std.proofs.lemmas.List.{reverse-append, take_more}
 use Rattle.std.proofs.lemmas.Option.{slice_get_read}
-use Rattle.std.specs.Prelude.{◌≤◌, slice_index_or}
 use Rattle.rds_world.specs.Event.{Event}
 use Rattle.rds_world.specs.Replies.{IsFirstRefused, IsStepRefused, IsTaken}
 use Rattle.rds_world.specs.SafeSlots.{OnlyWhatWasOnAirIsShown}

@@ -1,4 +1,4 @@
-use Rattle.std.proofs.Common.{arith, rules}
+use Rattle.std.proofs.Common.{arith}
 use Rattle.rds_world.proofs.station.obey.Goals as goal
 
 pub returns-in-SetText-clause-stands : goal.returns-in-SetText-clause-stands
@@ -15,9 +15,3 @@ pub returns-in-SetTags-clause-stands : goal.returns-in-SetTags-clause-stands
 returns-in-SetTags-clause-stands c entries st =
     let took = c.set_tags.ensures.stands _ _ entries st in
     search arith
-
-pub returns-in-Quiet-clause-reply : goal.returns-in-Quiet-clause-reply
-returns-in-Quiet-clause-reply c = search rules
-
-pub returns-in-Restart-clause-stands : goal.returns-in-Restart-clause-stands
-returns-in-Restart-clause-stands c = search rules

@@ -1,4 +1,3 @@
-use Rattle.std.proofs.lemmas.Bool.Decides.{nat_tests}
 use Rattle.std.proofs.Common.{arith}
 use Rattle.rds_assembly.proofs.TextLemmas.{found_none, found_whole}
 use Rattle.rds_assembly.proofs.radio_text.RadioTextService.length.Goals as goal
@@ -9,4 +8,4 @@ returns-then-place-trailing_ones-clause-whole c =
     (rw (← c.trailing_ones.ensures) c.if-place-trailing_ones.true)
 
 pub returns-else-place-trailing_ones-clause-none : goal.returns-else-place-trailing_ones-clause-none
-returns-else-place-trailing_ones-clause-none c = grind (arith, nat_tests, found_none)
+returns-else-place-trailing_ones-clause-none c = grind (arith, found_none)

@@ -1,4 +1,3 @@
-use Rattle.std.proofs.lemmas.Bool.Decides.{nat_tests}
 use Rattle.std.proofs.Common.{◌≡◌, ℕ, ◌/◌, ◌%◌, inl, inr, List, sym, ◌∙◌, arith}
 use Rattle.std.proofs.lemmas.Bool.{cases_lt}
 use Rattle.std.proofs.lemmas.List.{length-take-le}
@@ -16,7 +15,7 @@ both_set mask e i h = elim (cases_lt i 4) [
 ]
 
 both_there : (mask : ℕ) (bytes x : List ℕ) → IsWholeName (held_cells mask bytes) x → mask % 4 ≡ 3
-both_there mask bytes x w = grind (arith, nat_tests, byte_set)
+both_there mask bytes x w = grind (arith, byte_set)
 
 pub returns-then-mask-eq3-clause-whole : goal.returns-then-mask-eq3-clause-whole
 returns-then-mask-eq3-clause-whole c =

@@ -9,7 +9,7 @@ returns-then-is_empty c =
     let ends = c.end_slot.ensures in
     rw (c.none.ensures, ← c.is_empty.ensures.0 c.if-is_empty.true)
     (takes_all _ _ _ c.args.group c.hear_group-found.result hears.lists hears.keeps ends.holds ends.keeps
-    (λ none. grind (arith, nat_tests))
+    (λ none. grind (arith))
     (λ fault some. ends.fault ∙ hears.fault ∙ some))
 
 pub returns : goal.returns

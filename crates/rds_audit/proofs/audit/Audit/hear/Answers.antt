@@ -1,5 +1,4 @@
 use Rattle.std.proofs.Common.{arith, ◌≡◌, ◌∙◌, Some, ap, inl, inr, refl, sym}
-use Rattle.std.proofs.lemmas.Bool.Decides.{nat_tests}
 use Rattle.rds_fields.specs.declared.message.Message.TheVariants.{Tags}
 use Rattle.rds_receiver.specs.Receipts.{name_of, text_of}
 use Rattle.rds_audit.proofs.ListingSteps.{names_listed, nothing_listed, text_open, texts_listed}
@@ -38,4 +37,4 @@ returns-else-awaits_text-clause-lists c =
 
 pub returns-in-Announce-clause-lists : goal.returns-in-Announce-clause-lists
 returns-in-Announce-clause-lists c =
-    grind (arith, nat_tests, nothing_listed, announcement_counts, c.in-Announce.is, c.none-in-Announce.ensures)
+    grind (arith, nothing_listed, announcement_counts, c.in-Announce.is, c.none-in-Announce.ensures)

@@ -1,5 +1,4 @@
 use Rattle.std.proofs.Common.{arith, rules}
-use Rattle.std.proofs.lemmas.Bool.Decides.{nat_tests}
 use Rattle.rds_audit.specs.Stored.{form_of}
 use Rattle.rds_audit.proofs.ListingSteps.{passes_exactly}
 use Rattle.rds_audit.proofs.audit.Audit.passed.Goals as goal
@@ -8,7 +7,7 @@ pub returns-clause-fault : goal.returns-clause-fault
 returns-clause-fault c = search rules
 
 pub returns-clause-passes : goal.returns-clause-passes
-returns-clause-passes c pi d log s = grind (arith, nat_tests, passes_exactly)
+returns-clause-passes c pi d log s = grind (arith, passes_exactly)
 
 pub returns-clause-plans : goal.returns-clause-plans
 returns-clause-plans c pi d log s =

@@ -1,9 +1,8 @@
 use Rattle.std.proofs.Common.{arith}
-use Rattle.std.proofs.lemmas.Bool.Decides.{nat_tests}
 use Rattle.rds_audit.proofs.audit.Audit.texts_turn_the_flag.Goals as goal
 
 pub returns-then-passed-clause-turns : goal.returns-then-passed-clause-turns
-returns-then-passed-clause-turns c pi d log s = grind (arith, nat_tests)
+returns-then-passed-clause-turns c pi d log s = grind (arith)
 
 pub returns-then-passed-clause-safe : goal.returns-then-passed-clause-safe
 returns-then-passed-clause-safe c pi d log s plain turns =

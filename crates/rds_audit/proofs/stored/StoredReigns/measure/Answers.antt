@@ -1,5 +1,4 @@
 use Rattle.std.proofs.Common.{◌≡◌, Some, arith, rules}
-use Rattle.std.proofs.lemmas.Bool.Decides.{nat_tests}
 use Rattle.rds_audit.specs.Stored.{content_stored}
 use Rattle.rds_audit.proofs.LengthSets.{measures_held, measures_other}
 use Rattle.rds_audit.proofs.stored.StoredReigns.measure.Goals as goal
@@ -17,7 +16,7 @@ returns-then-left-eq0 g c =
     let m = measures_other g.S.Audited.gauge c.args.address c.args.bytes (content_stored c.args.self.now)
     c.lengths_at.result c.lengths_beside.result (rw c.sent_at-held.ensures at other) c.lengths_at.ensures
     (rw c.sent_at-held.ensures at c.lengths_beside.ensures) in
-    grind (arith, nat_tests)
+    grind (arith)
 
 pub returns : goal.returns
 returns g c =
@@ -25,4 +24,4 @@ returns g c =
     let m = measures_other g.S.Audited.gauge c.args.address c.args.bytes (content_stored c.args.self.now)
     c.lengths_at.result c.lengths_beside.result (rw c.sent_at-held.ensures at other) c.lengths_at.ensures
     (rw c.sent_at-held.ensures at c.lengths_beside.ensures) in
-    grind (arith, nat_tests)
+    grind (arith)

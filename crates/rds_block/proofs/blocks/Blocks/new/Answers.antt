@@ -1,4 +1,3 @@
-use Rattle.std.proofs.lemmas.Bool.Decides.{nat_tests}
 use Rattle.std.proofs.Common.{rules, ◌≡◌, ◌+◌, ◌*◌, ◌^◌, ◌<◌, ◌%◌, ◌∙◌, ℕ, [], ◌∷◌, length, get_or, arith}
 use lib.Lanes.{digits_l, number_l}
 use Rattle.rds_block.specs.Bits.{group_in}
@@ -13,11 +12,11 @@ number a b c d = 2 ^ 48 * a + 2 ^ 32 * b + 2 ^ 16 * c + d
 -- four lanes of 16 bits, the lowest first, hold their number
 joined : (a b c d : ℕ) → a < 65536 → b < 65536 → c < 65536 → d < 65536
     → number_l 256 (digits_l 256 8 (d + 65536 * (c + 65536 * (b + 65536 * (a + 0))))) % 2 ^ 64 ≡ number a b c d
-joined a b c d ha hb hc hd = grind (arith, nat_tests)
+joined a b c d ha hb hc hd = grind (arith)
 
 words : (a b c d : ℕ) → b < 65536 → c < 65536 → d < 65536
     → a ∷ b ∷ c ∷ d ∷ [] ≡ words_of (group_in (number a b c d))
-words a b c d hb hc hd = grind (arith, nat_tests)
+words a b c d hb hc hd = grind (arith)
 
 pub returns : goal.returns
 returns c =

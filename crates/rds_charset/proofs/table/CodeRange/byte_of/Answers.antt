@@ -1,7 +1,6 @@
-use Rattle.std.proofs.Common.{ap, sym, ◌∙◌, ◌+◌, rules, tests, ◌==◌}
+use Rattle.std.proofs.Common.{ap, sym, ◌∙◌, ◌+◌, rules, tests, ◌==◌, option_map}
 use Rattle.std.proofs.lemmas.Iterator.{YieldsList-from_slice}
 use Rattle.std.proofs.lemmas.Iterator.Search.{position_from_yields_List}
-use Rattle.std.specs.Prelude.{option_map}
 use Rattle.rds_charset.proofs.table.CodeRange.byte_of.Goals as goal
 
 pub returns-in_err-place : goal.returns-in_err-place

@@ -1,5 +1,4 @@
 use Rattle.std.proofs.Common.{arith}
-use Rattle.std.proofs.lemmas.Bool.Decides.{nat_tests}
 use Rattle.rds_fields.specs.Tag.{PairFields}
 use Rattle.rds_fields.specs.Bits.{sent_of}
 use Rattle.rds_fields.proofs.Shifts.{fields_joined}
@@ -11,4 +10,4 @@ returns c =
     let x = c.self.inside in
     let p : PairFields = record { toggle = x.toggle; running = x.running; one = x.one; two = x.two } in
     let joined = fields_joined (sent_of p) (sent_of-fit p c.self.invariant) in
-    grind (arith, nat_tests)
+    grind (arith)

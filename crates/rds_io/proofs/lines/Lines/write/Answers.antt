@@ -1,5 +1,4 @@
 use Rattle.std.proofs.Common.{arith, rules}
-use Rattle.std.proofs.lemmas.Bool.Decides.{nat_tests}
 use Rattle.std.proofs.lemmas.Result.{err_from_is_err_and}
 use Rattle.rds_io.specs.Told.{AppendsPrefix, HasFailed, traffic}
 use Rattle.rds_io.proofs.Waiting.{loses, writes}
@@ -15,4 +14,4 @@ returns-in_err-put-clause-waits g c start total has =
     t.failures_before t.failures_after has part failed)
 
 pub returns-clause-waits : goal.returns-clause-waits
-returns-clause-waits g c start total has = grind (arith, nat_tests, writes)
+returns-clause-waits g c start total has = grind (arith, writes)

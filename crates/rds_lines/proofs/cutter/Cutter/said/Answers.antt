@@ -1,6 +1,5 @@
 use Rattle.std.proofs.Common.{◌≡◌, ◌++◌, take, arith}
-use Rattle.rds_lines.proofs.Cutting.{kept_either, kept_of_more}
-use Rattle.rds_lines.proofs.FirstBytes.{none_by_first, some_by_first}
+use Rattle.rds_lines.proofs.Cutting.{kept_either, kept_of_more, none_by_first, some_by_first}
 use Rattle.rds_lines.proofs.cutter.Cutter.said.Goals as goal
 
 pub returns-clause-some : goal.returns-clause-some

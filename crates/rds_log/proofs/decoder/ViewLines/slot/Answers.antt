@@ -1,7 +1,7 @@
 use Rattle.std.proofs.Common.{◌∷◌, refl, subst}
 use Rattle.rds_log.specs.LogWrites.{SayWhys}
 use Rattle.rds_view_lines.specs.KeptView.{view_kept}
-use Rattle.rds_log.proofs.Views.{slot_given, slot_same}
+use Rattle.rds_log.proofs.Decodes.{slot_given, slot_same}
 use Rattle.rds_log.proofs.decoder.ViewLines.slot.Goals as goal
 
 pub returns-then-not-slot_blocks-clause-change : goal.returns-then-not-slot_blocks-clause-change

@@ -1,7 +1,6 @@
 use Rattle.std.proofs.Common.{◌≡◌, ◌<◌, ◌+◌, ◌∷◌, Option, Some, true, length, sym, subst, arith}
 use Rattle.rds_fields.specs.declared.message.Message.TheVariants.{Tags}
 use Rattle.rds_fields.specs.Tag.{PairFields}
-use Rattle.std.proofs.lemmas.Bool.Decides.{nat_tests}
 use Rattle.rds_receiver.specs.Holds.{HoldsAt}
 use Rattle.rds_receiver.specs.Stored.{display_stored}
 use Rattle.rds_receiver.proofs.Ages.{young}
@@ -11,7 +10,7 @@ use Rattle.rds_receiver.proofs.display.StoredDisplay.hear_tags.Goals as goal
 pub returns-then-eq-clause-holds : goal.returns-then-eq-clause-holds
 returns-then-eq-clause-holds c stored m first heard st =
     let r = display_stored c.args.self.now in
-    let known : r.is_known ≡ true = grind (arith, nat_tests, c.if-self-ne0.true) in
+    let known : r.is_known ≡ true = grind (arith, c.if-self-ne0.true) in
     let held = young r.dwell c.args.self.now.rest c.args.self.now.text stored.rests stored.soon
     (c.is_held.ensures.0 c.if-is_held.true) in
     let is_young : r.text.age < m = omega (arith, held, st.dwell) in
@@ -23,7 +22,7 @@ returns-then-eq-clause-holds c stored m first heard st =
 pub returns-then-is_held-clause-holds : goal.returns-then-is_held-clause-holds
 returns-then-is_held-clause-holds c stored m first heard st =
     let r = display_stored c.args.self.now in
-    let known : r.is_known ≡ true = grind (arith, nat_tests, c.if-self-ne0.true) in
+    let known : r.is_known ≡ true = grind (arith, c.if-self-ne0.true) in
     let held = young r.dwell c.args.self.now.rest c.args.self.now.text stored.rests stored.soon
     (c.is_held.ensures.0 c.if-is_held.true) in
     let is_young : r.text.age < m = omega (arith, held, st.dwell) in

@@ -1,4 +1,3 @@
-use Rattle.std.proofs.lemmas.Bool.Decides.{nat_tests}
 use Rattle.std.proofs.Common.{◌+◌, ◌∙◌, ◌∷◌, ℕ, List, None, Option, Some, arith, length, sym}
 use Rattle.rds_fields.specs.declared.message.Message.{Message}
 use Rattle.rds_receiver.specs.Confirming.{HasAged, HoldsBy}
@@ -22,5 +21,5 @@ returns-clause-holds c stored = rw (sym c.heard_blocks.ensures ∙ c.in-Some.is)
         → HasAged window m first (receiver_stored c.args.self.now) heard
         → HoldsBy window m (first + length heard) first (receiver_stored record c.args.self.now
         { display = c.hear.new.self }) (Some c.in-Some.message ∷ heard)
-    by None m first heard aged = grind (arith, nat_tests)
+    by None m first heard aged = grind (arith)
     by (Some w) m first heard aged = absurd (omega (arith, c.if-self-gt0.false, aged.lasts.window, aged.lasts.two))

@@ -1,9 +1,8 @@
-use Rattle.std.proofs.lemmas.Bool.Decides.{nat_tests}
 use Rattle.std.proofs.Common.{◌+◌, ◌∷◌, ℕ, Bool, List, None, Option, Some, ap, arith, length, refl, subst}
 use Rattle.rds_fields.specs.declared.message.Message.{Message}
 use Rattle.rds_receiver.specs.Confirming.{Counts, HasAged, HoldsBy}
 use Rattle.rds_receiver.specs.Stored.{display_stored, receiver_stored}
-use Rattle.rds_receiver.proofs.Alike.{alike_itself}
+use Rattle.rds_receiver.proofs.Shows.{alike_itself}
 use Rattle.rds_receiver.proofs.ConfirmingSteps.{lasts_aged, message_counted, message_not_counted, nothing_taken}
 use Rattle.rds_receiver.proofs.receiver.Receiver.hear_if_confirmed.Goals as goal
 
@@ -18,7 +17,7 @@ returns-in_default-clause-holds c stored = search (arith, by)
         (ap display_stored c.age_lasts.ensures.display) (c.age_lasts.ensures.lasts stored w m first heard) aged)
 
 pub returns-then-not-confirm-clause-holds : goal.returns-then-not-confirm-clause-holds
-returns-then-not-confirm-clause-holds c stored = grind (arith, nat_tests, by)
+returns-then-not-confirm-clause-holds c stored = grind (arith, by)
   where
     by : (window : Option ℕ) (m first : ℕ) (heard : List (Option Message))
         → HasAged window m first (receiver_stored c.args.self.now) heard
@@ -35,10 +34,10 @@ returns-then-not-confirm-clause-holds c stored = grind (arith, nat_tests, by)
 
 pub returns-then-not-confirm-clause-same : goal.returns-then-not-confirm-clause-same
 returns-then-not-confirm-clause-same c calm =
-    grind (arith, nat_tests, alike_itself, c.confirm.ensures.display, c.age_lasts.ensures.display)
+    grind (arith, alike_itself, c.confirm.ensures.display, c.age_lasts.ensures.display)
 
 pub returns-clause-holds : goal.returns-clause-holds
-returns-clause-holds c stored = grind (arith, nat_tests, by)
+returns-clause-holds c stored = grind (arith, by)
   where
     by : (window : Option ℕ) (m first : ℕ) (heard : List (Option Message))
         → HasAged window m first (receiver_stored c.args.self.now) heard

@@ -2,7 +2,7 @@ use Rattle.std.proofs.Common.{arith, ◌≡◌, ◌∙◌}
 use Rattle.std.proofs.lemmas.Bool.{or_parts}
 use Rattle.rds_receiver.specs.Receipts.{heard_of}
 use Rattle.rds_receiver.specs.Stored.{IsStoredReceiver}
-use Rattle.rds_receiver.proofs.Alike.{alike_by, stays_shown}
+use Rattle.rds_receiver.proofs.Shows.{alike_by, stays_shown}
 use Rattle.rds_receiver.proofs.ConfirmingSteps.{display_grown, slot_stands, with_display}
 use Rattle.rds_receiver.proofs.receiver.Receiver.slot_blocks.Goals as goal
 

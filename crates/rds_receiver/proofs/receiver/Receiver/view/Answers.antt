@@ -1,5 +1,4 @@
-use Rattle.std.proofs.Common.{◌∙◌, ap, refl, sym, subst}
-use Rattle.std.specs.Option.{option_copied}
+use Rattle.std.proofs.Common.{◌∙◌, ap, refl, sym, subst, option_copied}
 use Rattle.rds_receiver.specs.Receipts.{heard_of}
 use Rattle.rds_receiver.specs.Shown.{ShowsView, view_with}
 use Rattle.rds_receiver.specs.Confirmed.{counted}

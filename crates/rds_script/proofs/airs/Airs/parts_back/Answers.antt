@@ -1,6 +1,5 @@
-use Rattle.std.proofs.Common.{◌≡◌, ◌∙◌, ◌∷◌, ◌++◌, ◌+◌, ◌-◌, ◌<◌, ℕ, true, List, ap, arith, get_or}
-use Rattle.std.proofs.Common.{length, replicate, rules, sym, take}
-use Rattle.std.specs.Option.{option_copied}
+use Rattle.std.proofs.Common.{◌≡◌, ◌∙◌, ◌∷◌, ◌++◌, ◌+◌, ◌-◌, ◌<◌, ℕ, true, List, ap, arith, get_or, length, replicate}
+use Rattle.std.proofs.Common.{rules, sym, take, option_copied}
 use Rattle.rds_receiver.specs.Borrowed.{view_of}
 use Rattle.rds_receiver.specs.Shown.{ShownView}
 use Rattle.rds_view_lines.specs.KeptView.{view_kept}

@@ -1,5 +1,4 @@
-use Rattle.std.proofs.Common.{◌≡◌, ◌-◌, None, length, take}
-use Rattle.std.specs.Option.{option_copied}
+use Rattle.std.proofs.Common.{◌≡◌, ◌-◌, None, length, take, option_copied}
 use Rattle.rds_receiver.specs.Borrowed.{view_of}
 use Rattle.rds_script.specs.OnAir.{either, parts_among}
 use Rattle.rds_script.specs.Inside.Compared.{airs_in, reached}

@@ -13,7 +13,7 @@ use Rattle.rds_script.specs.Inside.Compared.{AirsStand, GoesOnCompared, airings_
 use Rattle.rds_script.specs.OnAir.{airings}
 use Rattle.rds_script.specs.Outcomes.{airings_changes, view_at}
 use Rattle.rds_script.proofs.Periods.{newest_air}
-use Rattle.rds_script.proofs.AiringLines.{airings_alike}
+use Rattle.rds_script.proofs.OneOutcome.{airings_alike}
 use Rattle.rds_script.proofs.compared.Compared.push.Goals as goal
 
 pub returns : goal.returns

@@ -1,6 +1,5 @@
-use Rattle.std.proofs.Common.{◌∙◌, ◌+◌, ap, subst, sym, ℕ}
+use Rattle.std.proofs.Common.{arith, ◌∙◌, ◌+◌, ap, subst, sym, ℕ, option_map}
 use Rattle.std.proofs.lemmas.Slice.Eq.{bytes_eq-Decides}
-use Rattle.std.specs.Prelude.{option_map}
 use Rattle.rds_receiver.specs.Borrowed.{view_of}
 use Rattle.rds_witness.specs.Borrowed.{thing_of}
 use Rattle.rds_witness.specs.Firsts.{IsFirstSoFar, key_of, slot_at}
@@ -8,9 +7,7 @@ use Rattle.rds_witness.proofs.Mixes.{with_kind, without_kind}
 use Rattle.rds_witness.proofs.firsts.Firsts.note_kind.Goals as goal
 
 pub returns-in_default : goal.returns-in_default
-returns-in_default c t log is all thing =
-    let none = sym c.of_kind.ensures.is ∙ ap (option_map thing_of) c.in_default.is in
-    without_kind t log c.args.slot (view_of c.args.view) is c.args.kind none thing _ (all thing)
+returns-in_default c t log is all thing = grind (arith, option_map, thing_of, without_kind, view_of)
 
 pub returns : goal.returns
 returns c t log is all thing =

@@ -48,7 +48,4 @@ loop-slot-preserved c =
     ]
 
 pub returns : goal.returns
-returns c =
-    let all : c.loop-slot.slot ≡ length c.args.log.now = omega arith in
-    subst (λ (n : ℕ). AreFirsts (tuned c.args.pi c.args.dwell) c.args.log.now n c.loop-slot.firsts) all
-    c.loop-slot.invariant.firsts
+returns c = grind (arith, tuned)

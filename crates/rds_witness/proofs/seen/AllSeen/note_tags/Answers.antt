@@ -1,4 +1,3 @@
-use Rattle.std.proofs.lemmas.Bool.Decides.{nat_tests}
 use Rattle.std.proofs.Common.{◌≡◌, ◌∙◌, ◌+◌, All, Some, ap, arith, length}
 use Rattle.rds_fields.specs.Tag.{PairFields}
 use Rattle.rds_witness.specs.Search.{IsOfRun}
@@ -23,4 +22,4 @@ loop-place-preserved c = record {
     some_same is = cc
 
 pub returns : goal.returns
-returns c t log inside stands seen pairs = grind (arith, nat_tests)
+returns c t log inside stands seen pairs = grind (arith)

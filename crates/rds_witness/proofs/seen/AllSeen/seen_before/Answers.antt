@@ -1,5 +1,4 @@
-use Rattle.std.proofs.Common.{arith}
-use Rattle.std.specs.List.{Contains}
+use Rattle.std.proofs.Common.{arith, Contains}
 use Rattle.rds_witness.proofs.seen.AllSeen.seen_before.Goals as goal
 
 pub returns-then-seen-slots : goal.returns-then-seen-slots

@@ -1,4 +1,3 @@
-use Rattle.std.proofs.lemmas.Bool.Decides.{nat_tests}
 use Rattle.std.proofs.Common.{◌≡◌, ◌∙◌, ◌∷◌, ◌+◌, ◌-◌, ◌<◌, ◌≤◌, [], All, List, None, Option, ap, arith, inl, inr}
 use Rattle.std.proofs.Common.{length, refl, suc, sym}
 use Rattle.std.proofs.lemmas.Bool.{cases_lt}
@@ -103,4 +102,4 @@ returns-clause-checked c pi m n k log old losing hearing =
     (λ alike. let changed = c.lose_first.ensures.changed in absurd (cc)) in
     let lose_more = c.in_ok-keep_after_slot-3.ensures.checked pi m n k log (rw still_losing old.losing_at)
     (rw still_losing losing) one_more in
-    grind (arith, nat_tests)
+    grind (arith)

@@ -1,4 +1,4 @@
-use Rattle.std.proofs.Common.{arith, rules, ◌≡◌, ◌∙◌, refl}
+use Rattle.std.proofs.Common.{arith, ◌≡◌, ◌∙◌, refl}
 use Rattle.rds_world.specs.WorldAt.{HeardNothing}
 use Rattle.rds_world.proofs.Received.{at_first, heard_nothing, one_of_first}
 use Rattle.rds_world.proofs.world.World.new.Goals as goal
@@ -27,18 +27,3 @@ returns-clause-stands c =
       sent = search arith;
       same = λ i is. tt;
     }
-
-pub returns-in_default-clause-refused : goal.returns-in_default-clause-refused
-returns-in_default-clause-refused c = search rules
-
-pub invariant_of-result : goal.invariant_of-result
-invariant_of-result c = search rules
-
-pub returns-clause-refused : goal.returns-clause-refused
-returns-clause-refused c = search rules
-
-pub returns-clause-few : goal.returns-clause-few
-returns-clause-few c = search rules
-
-pub returns-clause-count : goal.returns-clause-count
-returns-clause-count c = search rules

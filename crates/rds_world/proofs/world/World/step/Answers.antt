@@ -1,4 +1,3 @@
-use Rattle.std.proofs.lemmas.Bool.Decides.{nat_tests}
 use Rattle.std.proofs.Common.{◌≡◌, ◌++◌, ◌∷◌, ℕ, List, Option, length, take, drop, sym, ◌∙◌, subst, refl, arith}
 use Rattle.std.specs.Prelude.{slice_index_or}
 use Rattle.std.proofs.Math.Seq.{take-append_seam}
@@ -36,7 +35,7 @@ returns-clause-stands c config events st =
     let ticked = c.tick-sent.ensures.stands set.head apart (commanded now.command before) done in
     let sent = c.tick-sent.ensures.sent set.head apart (commanded now.command before) done in
     let all_sent = log apart (now ∷ events) in
-    let kept : AreLastSent set all_sent c.push.new.self.items = grind (arith, nat_tests, one_more_sent) in
+    let kept : AreLastSent set all_sent c.push.new.self.items = grind (arith, one_more_sent) in
     let told = sym c.as_slice-receptions.ensures.value in
     let due_told = subst (λ (xs : List Reception). (i : ℕ)
     → IsDue late (length events) (last_named i events) (slice_index_or xs i Lost)) told due_now in
@@ -49,8 +48,8 @@ returns-clause-stands c config events st =
     let noted = c.note_wrong.new.pasts in
     let rest = drop (length noted) world.pasts.items in
     let as_many : length noted ≡ world.pasts.len = c.note_wrong.ensures.count ∙ c.as_mut_slice.ensures.len in
-    let all_noted : noted ≡ take world.pasts.len (noted ++ rest) = grind (arith, nat_tests, take-append_seam) in
-    let pasts : HavePasts window (now ∷ events) (take world.pasts.len (noted ++ rest)) = grind (arith, nat_tests) in
+    let all_noted : noted ≡ take world.pasts.len (noted ++ rest) = grind (arith, take-append_seam) in
+    let pasts : HavePasts window (now ∷ events) (take world.pasts.len (noted ++ rest)) = grind (arith) in
     let old : WorldState = record {
       config = set;
       encoder = world.encoder;
@@ -73,8 +72,8 @@ returns-clause-stands c config events st =
     (input_of apart i events) in
     let all : AllHaveHeard set inputs new.receivers =
     rw c.as_slice-receptions.ensures.value at heard in
-    let many : length (take world.count world.reaches) ≡ world.count = grind (arith, nat_tests) in
-    let reaches : HaveReaches late (now ∷ events) new.reaches = grind (arith, nat_tests) in
+    let many : length (take world.count world.reaches) ≡ world.count = grind (arith) in
+    let reaches : HaveReaches late (now ∷ events) new.reaches = grind (arith) in
     let unchanged =
     rw c.as_slice-receptions.ensures.value at (c.hand_out_first-self-inside.ensures.same (length events) all_sent
     (λ i. input_of apart i events) (λ i. last_named i events) kept due_told own.receivers) in

@@ -1,5 +1,0 @@
-use Rattle.std.proofs.Common.{rules}
-use Rattle.rds_charset.proofs.table.table.Goals as goal
-
-pub returns : goal.returns
-returns c = search rules

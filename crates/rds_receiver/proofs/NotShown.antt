@@ -1,1 +1,0 @@
--- Lemmas: why nothing is shown follows from what is held.
