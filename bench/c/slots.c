@@ -1,5 +1,5 @@
-/* Hands a log of received groups to a receiver of the C library (with a window if CONFIRMING is defined), or to
- * libv4l2rds if V4L2RDS is defined, one slot a line. Only the call of a slot is counted.   ./slots < log */
+/* Hands a log to a receiver of the C library (with a window if CONFIRMING is defined), to an audit if AUDIT is defined, or
+ * to libv4l2rds if V4L2RDS is defined, one slot a line. Only the call of a slot is counted.   ./slots < log */
 #include <inttypes.h>
 #include <stdio.h>
 
@@ -13,7 +13,9 @@
 /* The next slot of the log: false at its end; whether a group was received in it. */
 static int next_slot(uint16_t blocks[4], int *is_received) {
     char line[128];
-    if (!fgets(line, sizeof line, stdin)) return 0;
+    do {
+        if (!fgets(line, sizeof line, stdin)) return 0;
+    } while (line[0] == '#');
     *is_received = sscanf(line, "%" SCNx16 " %" SCNx16 " %" SCNx16 " %" SCNx16, blocks, blocks + 1, blocks + 2, blocks + 3) == 4;
     return 1;
 }
@@ -32,6 +34,13 @@ int main(void) {
     }
     printf("%lu slots, %lu changes, %zu bytes of heap\n", slots, changes, malloc_usable_size(rds));
     v4l2_rds_destroy(rds);
+#elif defined AUDIT
+    struct rdsrt_audit audit;
+    rdsrt_audit_init(&audit, 0xC201, 128, 0);
+    for (; next_slot(blocks, &is_received); slots++) {
+        changes += rdsrt_audit_slot(&audit, blocks, is_received ? 4 : 0) != RDSRT_OK;
+    }
+    printf("%lu slots, %lu of them with a fault, %zu bytes of the caller's\n", slots, changes, sizeof audit);
 #else
     struct rdsrt_receiver receiver;
 #ifdef CONFIRMING
