@@ -50,7 +50,8 @@ def most_jobs():
     """Returns how many jobs may run at a time, as far as there is free memory for them: one for each core, and one more. A crate
     keeps the jobs that it began with, so without that one a core waits while the crates that remain have a job each."""
     free = int(re.search(r"MemAvailable: *(\d+) kB", pathlib.Path("/proc/meminfo").read_text(encoding="ascii")).group(1))
-    return max(1, min(len(os.sched_getaffinity(0)) + 1, free // MEMORY))
+    cores = len(os.sched_getaffinity(0))
+    return max(1, min(cores + 1 if cores > 1 else 1, free // MEMORY))
 
 
 class Call(NamedTuple):
