@@ -4,9 +4,8 @@ use Rattle.rds_fields.specs.Tag.{PairFields}
 use Rattle.rds_receiver.specs.declared.fragment.Fragment.{Fragment}
 use Rattle.rds_encoder.specs.Plan.{Broadcast}
 use Rattle.rds_audit.specs.Dense.{IsBridged, IsDense, IsMarked}
-use Rattle.rds_safety.specs.Lawful.{IsLawful, Kind}
+use Rattle.rds_safety.specs.Lawful.{IsAfterFragment, IsLawful, Kind}
 use Rattle.rds_safety.specs.Marks.{IsMarkIn, Mark, Sends, Tagged, Nothing}
-use Rattle.rds_audit.specs.Rules.{IsAfterFragment}
 use Rattle.std.proofs.lemmas.Bool.{cond_both}
 use Rattle.rds_audit.specs.Reigns.{Reign, after_fragment, after_tags, joins, opened_by, reigns, with_fragment}
 use Rattle.rds_audit.specs.Reigns.{with_tags}
@@ -58,10 +57,6 @@ fragment_is_marked sent t p s = record { mark = Sends p; some = λ e. (cc); is_s
 pub tags_are_marked : (sent : List Mark) (t : ℕ) (pair : PairFields) → IsMarkIn sent t (Tagged pair) → IsMarked sent t
 tags_are_marked sent t pair s = record { mark = Tagged pair; some = λ e. (cc); is_sent = s }
 
--- tags come after a fragment
-abbrev pub TagsAreAfter : List Mark → Type 0
-TagsAreAfter sent = (t : ℕ) (pair : PairFields) → IsMarkIn sent t (Tagged pair) → IsAfterFragment sent t
-
 -- what came after a fragment comes after it with one slot more too
 pub after_later : (x : Mark) (sent : List Mark) (t : ℕ) → IsAfterFragment sent t → IsAfterFragment (x ∷ sent) t
 after_later x sent t w = record { slot = w.slot; fragment = w.fragment; is_sent = inr w.is_sent; before = w.before }
@@ -69,7 +64,7 @@ after_later x sent t w = record { slot = w.slot; fragment = w.fragment; is_sent 
 -- a plan that is lawful and dense for a log is so for its earlier slots
 pub lawful_before : (d : ℕ) (kind : Kind) (plan : List Broadcast) (x : Mark) (before : List Mark)
     → IsLawful d kind plan (x ∷ before) → IsLawful d kind plan before
-lawful_before d kind plan x before h = grind (arith)
+lawful_before d kind plan x before h = grind (arith, after_later)
 
 -- a plan that is dense for some marks is dense for those before the newest
 pub dense_before : (d : ℕ) (plan : List Broadcast) (x : Mark) (before : List Mark) → IsDense d plan (x ∷ before)

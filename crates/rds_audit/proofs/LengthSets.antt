@@ -1,10 +1,10 @@
 -- Lemmas: sets of lengths as numbers.
 use Rattle.std.proofs.lemmas.Bool.Decides.{nat_tests}
-use Rattle.std.proofs.Common.{◌≡◌, ◌⊎◌, ◌+◌, ◌-◌, ◌*◌, ◌/◌, ◌%◌, ◌^◌, ◌<◌, ◌≤◌, ◌&&◌, ◌||◌, min, max, ℕ, zero, suc}
+use Rattle.std.proofs.Common.{◌≡◌, ◌⊎◌, ◌+◌, ◌-◌, ◌*◌, ◌/◌, ◌%◌, ◌^◌, ◌<◌, ◌≤◌, ◌&&◌, ◌||◌, ℕ, zero, suc}
 use Rattle.std.proofs.Common.{Bool, true, false, nat_eq, nat_lt, nat_le, cond, List, [], ◌∷◌, length, slice_index, refl}
 use Rattle.std.proofs.Common.{sym, ap, ◌∙◌, inl, inr, arith, Option, Some, None, not, get_or, bit_and, bit_or}
 use Rattle.std.specs.Int.{bit_at}
-use Rattle.std.proofs.lemmas.Bool.{cases_lt, eq-eqb, eqb-true, false_from_ne_true}
+use Rattle.std.proofs.lemmas.Bool.{cases_lt, eq-eqb, false_from_ne_true}
 use Rattle.rds_assembly.specs.Value.{is_text_byte}
 use Rattle.rds_audit.specs.Lengths.{Gauge, in_name, in_padded_text, in_text, may_stand, is_past, those, allows, holds}
 use Rattle.rds_audit.specs.Lengths.{left_or, lengths_of, measure, measured_after, sent_cells, limit_at, same_bytes}

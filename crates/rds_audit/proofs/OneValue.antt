@@ -1,12 +1,12 @@
 -- Lemmas: the gauges of texts and of names are exact. Some value has fragments and tags exactly if each fragment fits,
 -- and a length that is left reaches the ends of the tags.
 use Rattle.std.proofs.lemmas.Bool.Decides.{nat_tests}
-use Rattle.std.proofs.Common.{◌≡◌, ◌⊎◌, ◌+◌, ◌*◌, ◌/◌, ◌%◌, ◌^◌, ◌<◌, ◌≤◌, ◌++◌, ℕ, zero, suc, Bool, true, ◌-◌, nat_eq}
+use Rattle.std.proofs.Common.{◌≡◌, ◌⊎◌, ◌+◌, ◌*◌, ◌/◌, ◌%◌, ◌^◌, ◌<◌, ◌≤◌, ◌++◌, ℕ, zero, suc, Bool, true, ◌-◌}
 use Rattle.std.proofs.Common.{false, List, [], ◌∷◌, length, slice_index, get_or, Option, Some, None, refl, sym, ap, ◌∙◌}
 use Rattle.std.proofs.Common.{subst, inl, inr, arith, bit_and, replicate}
 use Rattle.std.specs.Int.{bit_at}
 use Rattle.std.specs.List.{AllByRecursion}
-use Rattle.std.proofs.lemmas.Bool.{and_from, and_parts, cases_lt, false_from_ne_true, lt-ltb, ltb-true}
+use Rattle.std.proofs.lemmas.Bool.{and_from, and_parts, false_from_ne_true, lt-ltb}
 use Rattle.std.proofs.lemmas.Grind.{same_number_lists}
 use Rattle.std.proofs.lemmas.List.{append-nil}
 use Rattle.std.proofs.lemmas.Nat.Bits.{bit_at-lt, bit_at-pow_other, bit_at-pow_same, bit_at_and, bit_at_ones}
@@ -21,11 +21,10 @@ use Rattle.rds_safety.proofs.Padded.{text_fits, text_full, text_long, text_past}
 use Rattle.rds_audit.specs.Reigns.{SentTags}
 use Rattle.rds_audit.specs.declared.text_form.TextForm.{TextForm}
 use Rattle.rds_audit.specs.Lengths.{Gauge, IsExact, IsFormed, all_fit, allows, gauge_of, holds, in_name, in_padded_text}
-use Rattle.rds_audit.specs.Lengths.{in_text, left_or, lengths_of, limit_at, limit_from, may_stand, measure, name_gauge}
+use Rattle.rds_audit.specs.Lengths.{in_text, left_or, lengths_of, limit_at, limit_from, may_stand, name_gauge}
 use Rattle.rds_audit.specs.Lengths.{padded_gauge, sent_cells, sent_last, tag_end, tags_end, text_gauge, those}
 use Rattle.rds_audit.proofs.LengthSets.{below_end, bit_past, bit_those, from_end, some_left, measure_held}
 use Rattle.rds_audit.proofs.LengthSets.{measure_other, measured_less}
-use Rattle.rds_audit.specs.declared.audited.Measured.{Measured}
 use Rattle.rds_audit.proofs.SpanOrder.{IsIn, all_in, cell_from, cells_sent, bytes_same, same_bytes_are}
 
 -- ---- tags

@@ -5,12 +5,13 @@ use Rattle.rds_encoder.specs.Plan.{Broadcast, Covers, HasNumber}
 use Rattle.rds_encoder.specs.Spaced.{IsSpaced}
 use Rattle.rds_receiver.specs.declared.fragment.Fragment.{Fragment}
 use Rattle.rds_audit.specs.AuditLaws.{AreReignsOf, AreTheReigns, IsReignOf, SomeReign, IsSafeLog, PassesExactlyByPlans}
-use Rattle.rds_audit.specs.Dense.{IsDense, HasPlans}
+use Rattle.rds_audit.specs.Dense.{IsDense, HasPlans, TagsAreAfter}
 use Rattle.rds_safety.specs.Lawful.{IsLawful, Kind, names, padded_texts, texts}
 use Rattle.rds_safety.specs.Laws.{PlanLaws, LawfulPlansAreSafeAs, LawfulPlansAreSafeByOwnClocksAs}
 use Rattle.rds_safety.specs.Marks.{Mark, marks, name_mark, text_mark, Nothing, Sends, Tagged}
 use Rattle.rds_audit.specs.Reigns.{Reign, reigns, AlternateFlags, IsOfEachTwo, after_fragment, after_tags}
 use Rattle.rds_audit.proofs.Planning.{are_reigns_of, passes, HoldsFragment, fragment_held, has_plan, has_plan_of_reigns}
+use Rattle.rds_audit.proofs.Keeping.{after_later}
 use Rattle.rds_audit.proofs.Planning.{plan_from}
 use Rattle.rds_fields.specs.declared.message.Message.{Message}
 use Rattle.rds_audit.specs.Forms.{text_kind}
@@ -48,6 +49,11 @@ the_reigns laws d kind plan sent law dense = record {
 
 -- ---- a log passes exactly if it has plans, and then it is safe
 
+no_tags_of_names : (log : List (Option Message)) → TagsAreAfter (marks name_mark log)
+no_tags_of_names [] t pair h = absurd h
+no_tags_of_names (x ∷ before) t pair (inl h) = absurd (grind (arith, h.1))
+no_tags_of_names (x ∷ before) t pair (inr h) = after_later (name_mark x) _ t (no_tags_of_names before t pair h)
+
 module _ (laws : PlanLaws) (form : TextForm) (d : ℕ) (log : List (Option Message)) where
   log_has_plans : 0 < d → LogPasses form d log → HasPlans form d log
   log_has_plans pos p =
@@ -57,10 +63,11 @@ module _ (laws : PlanLaws) (form : TextForm) (d : ℕ) (log : List (Option Messa
         plans = record { text = text.plan; name = name.plan };
         lawful = record { text = text.lawful; name = name.lawful };
         dense = record { text = text.dense; name = name.dense };
+        tagged = text.tagged;
       }
 
   plans_pass : HasPlans form d log → LogPasses form d log
-  plans_pass h = search (arith, passes)
+  plans_pass h = search (arith, passes, no_tags_of_names)
 
 pub passes_by_plans : PlanLaws → PassesExactlyByPlans
 passes_by_plans laws form d log pos = (log_has_plans laws form d log pos, plans_pass laws form d log)

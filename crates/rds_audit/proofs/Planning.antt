@@ -8,15 +8,15 @@ use Rattle.rds_receiver.specs.declared.fragment.Fragment.{Fragment}
 use Rattle.rds_encoder.specs.Plan.{Broadcast, Covers, HasNumber}
 use Rattle.rds_encoder.specs.Laws.{ANumberIsBelowTheLength}
 use Rattle.rds_audit.specs.AuditLaws.{SomeReign, AreReignsOf, AreTagsOf, IsReignOf}
-use Rattle.rds_audit.specs.Dense.{HasFragmentBefore, HasPlan, IsBridged, IsMarked, IsDense}
-use Rattle.rds_safety.specs.Lawful.{HasOne, HasFragment, HasTags, Kind, IsLawful}
+use Rattle.rds_audit.specs.Dense.{TagsAreAfter, HasFragmentBefore, HasPlan, IsBridged, IsMarked, IsDense}
+use Rattle.rds_safety.specs.Lawful.{HasOne, HasFragment, HasTags, IsAfterFragment, Kind, IsLawful}
 use Rattle.rds_safety.specs.Marks.{IsMarkIn, Mark, Nothing, Sends, Tagged}
 use Rattle.rds_audit.proofs.SpanOrder.{IsIn, all_in}
 use Rattle.rds_audit.specs.Reigns.{Reign, after_fragment, after_tags, reigns, start_after, SentTags, opened_by}
 use Rattle.rds_audit.specs.Reigns.{past_newest}
 use Rattle.rds_audit.specs.Rules.{CanBeBroadcast, Passes}
 use Rattle.rds_safety.specs.Flags.{other_flag, same_flag}
-use Rattle.rds_audit.proofs.Keeping.{AreKept, IsBehind, Keeps, keeps, TagsAreAfter, early, one_mark, fragment_is_marked}
+use Rattle.rds_audit.proofs.Keeping.{AreKept, IsBehind, Keeps, keeps, early, one_mark, fragment_is_marked}
 use Rattle.rds_audit.proofs.Keeping.{sent_before, tags_are_marked, dense_before, lawful_before, marked_before}
 use Rattle.rds_encoder.specs.Spaced.{IsSpaced}
 use Rattle.rds_safety.specs.Laws.{PlanLaws}
@@ -244,9 +244,10 @@ has_plan_of_reigns below d kind sent pos h = (
       spaced = search (arith, lasting, keeps, ordering, chained, distance);
       values = valued d kind (reigns d sent) h.reigns;
       fragments = λ t p s. fragment_planned d kind t p (reigns d sent) h.reigns (fragment_held d sent t p s);
-      tags = λ t pair s. tags_planned d kind t pair (reigns d sent) h.reigns (tags_held d sent h.tagged t pair s);
+      tags = λ t pair s after. tags_planned d kind t pair (reigns d sent) h.reigns (tags_held d sent h.tagged t pair s);
     };
     dense = search (arith, dense_fragments, chained, keeps, dense_tags);
+    tagged = h.tagged;
   },
   refl,
 )
@@ -317,6 +318,22 @@ module _ (laws : PlanLaws) (d : ℕ) (kind : Kind) (plan : List Broadcast) (spac
       let fragment = sent_before (Tagged pair) sent w.slot (Sends w.fragment) w.before w.is_sent in
       search (arith, fragment_is_marked, same_broadcast, early)
 
+-- tags are of the broadcast of the newest reign, if there is one
+tags_are_of : (laws : PlanLaws) (d : ℕ) (kind : Kind) (plan : List Broadcast) → IsSpaced d plan → (sent : List Mark)
+    (pair : PairFields) (rs : List Reign) → IsLawful d kind plan (Tagged pair ∷ sent)
+    → IsDense d plan (Tagged pair ∷ sent) → Keeps d sent rs → AreReignsOf d kind plan (length plan) rs
+    → AreReignsOf d kind plan (length plan) (after_tags (length sent) pair rs)
+tags_are_of laws d kind plan spaced sent pair [] law dense keep a = tt
+tags_are_of laws d kind plan spaced sent pair (r ∷ older) law dense keep a =
+    let after : IsAfterFragment (Tagged pair ∷ sent) (length sent) = record {
+      slot = r.opened;
+      fragment = keep.0.0.first;
+      is_sent = inr keep.0.0.opened;
+      before = early sent r.opened (Sends keep.0.0.first) keep.0.0.opened;
+    } in
+    let w = law.tags (length sent) pair (inl (refl, refl)) after in
+    tags_of laws d kind plan spaced (length plan) w.number sent w.broadcast pair (r ∷ older) dense w.planned w.is keep a
+
 -- the reigns are of broadcasts of each lawful and dense plan, in order
 pub are_reigns_of : PlanLaws → (d : ℕ) (kind : Kind) (plan : List Broadcast) (sent : List Mark)
     → IsLawful d kind plan sent → IsDense d plan sent → AreReignsOf d kind plan (length plan) (reigns d sent)
@@ -333,10 +350,7 @@ are_reigns_of laws d kind plan (Sends p ∷ sent) law dense =
 are_reigns_of laws d kind plan (Tagged pair ∷ sent) law dense =
     let before = are_reigns_of laws d kind plan sent (lawful_before d kind plan (Tagged pair) sent law)
     (dense_before d plan (Tagged pair) sent dense) in
-    let w = law.tags (length sent) pair (inl (refl, refl)) in
-    let lawful = lawful_before d kind plan (Tagged pair) sent law in
-    let filled = dense_before d plan (Tagged pair) sent dense in
-    grind (arith, are_reigns_of laws d kind plan sent lawful filled, tags_of, keeps)
+    tags_are_of laws d kind plan law.spaced sent pair (reigns d sent) law dense (keeps d sent) before
 
 all_lasted : (d start : ℕ) (b : Broadcast) (tags : List SentTags) → start ≤ b.start
     → AllByRecursion (AreTagsOf d b) tags → AllByRecursion (λ (s : SentTags). start + d ≤ s.slot) tags
@@ -367,9 +381,5 @@ pub passes : PlanLaws → (d : ℕ) (kind : Kind) (sent : List Mark) → HasPlan
 passes laws d kind sent h = record {
   reigns = can_be_broadcasts d (length h.plan) kind h.plan (reigns d sent) h.lawful.values
       (are_reigns_of laws d kind h.plan sent h.lawful h.dense);
-  tagged = λ t pair s.
-      let w = h.lawful.tags t pair s in
-      let v = h.dense.tags w.number w.broadcast t pair w.planned record
-      { from = omega (arith, w.is.lasted); to = w.is.to } s in
-      record { slot = v.slot; fragment = v.fragment; is_sent = v.is_sent; before = v.before };
+  tagged = h.tagged;
 }

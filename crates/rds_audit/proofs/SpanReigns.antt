@@ -7,7 +7,7 @@ use Rattle.std.proofs.lemmas.Bool.{le-ltb, not-false, or_from}
 use Rattle.rds_fields.specs.Tag.{PairFields}
 use Rattle.rds_receiver.specs.declared.fragment.Fragment.{Fragment}
 use Rattle.rds_safety.specs.Flags.{is_other_flag, is_same_flag, same_or_other}
-use Rattle.rds_safety.specs.Lawful.{Kind}
+use Rattle.rds_safety.specs.Lawful.{IsAfterFragment, Kind}
 use Rattle.rds_safety.specs.Marks.{Mark, Nothing, Sends, Tagged}
 use Rattle.rds_audit.specs.declared.fault_set.FaultSet.{FaultSet}
 use Rattle.rds_audit.specs.Lengths.{Gauge, IsExact, IsFormed, changes, is_past, lengths_of, tags_end}
@@ -16,8 +16,9 @@ use Rattle.rds_audit.specs.Listing.{reigns_of, span_with, spans, spans_after, sp
 use Rattle.rds_audit.specs.ListingLaws.{IsFormedMark}
 use Rattle.rds_audit.specs.Reigns.{Reign, SentTags, after_fragment, after_tags, reigns, opened_from, with_fragment}
 use Rattle.rds_audit.specs.Reigns.{with_tags}
-use Rattle.rds_audit.specs.Rules.{CanBeBroadcast, HaveOneValue, IsAfterFragment, Passes}
-use Rattle.rds_audit.proofs.Keeping.{AreKept, Keeps, keeps, TagsAreAfter, after_later, early, sent_before}
+use Rattle.rds_audit.specs.Dense.{TagsAreAfter}
+use Rattle.rds_audit.specs.Rules.{CanBeBroadcast, HaveOneValue, Passes}
+use Rattle.rds_audit.proofs.Keeping.{AreKept, Keeps, keeps, after_later, early, sent_before}
 use Rattle.rds_audit.proofs.SpanSteps.{sets_are}
 
 -- ---- a service that passes passed before its newest mark

@@ -4,7 +4,7 @@ use Rattle.std.proofs.Common.{◌≡◌, ℕ, zero, suc, Bool, true, false, List
 use Rattle.std.proofs.Common.{inl, inr, arith, ◌<◌, get_or, set, sym, ◌+◌, ◌-◌, ◌≤◌, min, not, ◌&&◌, ◌↔◌, IsTrue, ◌∙◌}
 use Rattle.std.proofs.Common.{◌*◌, ◌^◌, ◌||◌, nat_lt, cond, replicate}
 use Rattle.rds_fields.specs.declared.message.Message.{Message}
-use Rattle.rds_fields.specs.declared.message.Message.TheVariants.{Text, Name, Announce, Tags, Other}
+use Rattle.rds_fields.specs.declared.message.Message.TheVariants.{Text, Name, Announce, Tags}
 use Rattle.rds_fields.specs.Tag.{PairFields}
 use Rattle.rds_safety.specs.Marks.{IsMarkIn, Mark, Nothing, Tagged, marks, name_mark, text_mark, Sends}
 use Rattle.rds_audit.specs.declared.log_start.LogStart.{LogStart}

@@ -6,7 +6,7 @@ use Rattle.rds_fields.specs.declared.message.Message.{Message}
 use Rattle.rds_fields.specs.Tag.{PairFields}
 use Rattle.rds_encoder.specs.Plan.{Broadcast, Covers, HasNumber}
 use Rattle.rds_receiver.specs.declared.fragment.Fragment.{Fragment}
-use Rattle.rds_safety.specs.Lawful.{IsLawful, Kind}
+use Rattle.rds_safety.specs.Lawful.{IsAfterFragment, IsLawful, Kind}
 use Rattle.rds_safety.specs.Marks.{IsMarkIn, Mark, Nothing, Sends, Tagged, marks, name_mark, text_mark}
 use Rattle.rds_safety.specs.Plans.{AreLawfulAs, Plans}
 use Rattle.rds_audit.specs.Forms.{text_kind}
@@ -42,19 +42,25 @@ pub record IsDense (d : ℕ) (plan : List Broadcast) (sent : List Mark) : Type 0
   pub tags : (k : ℕ) (b : Broadcast) (t : ℕ) (pair : PairFields) → HasNumber plan k b → Covers b t
       → IsMarkIn sent t (Tagged pair) → HasFragmentBefore sent b t
 
+-- tags come after a fragment
+abbrev pub TagsAreAfter : List Mark → Type 0
+TagsAreAfter sent = (t : ℕ) (pair : PairFields) → IsMarkIn sent t (Tagged pair) → IsAfterFragment sent t
+
 -- both plans are dense for the log
 pub record AreDense (d : ℕ) (plans : Plans) (log : List (Option Message)) : Type 0 where
   pub text : IsDense d plans.text (marks text_mark log)
   pub name : IsDense d plans.name (marks name_mark log)
 
--- the service has a plan that is lawful and dense for these marks
+-- the service has a plan that is lawful and dense for these marks, and its tags come after a fragment
 pub record HasPlan (d : ℕ) (kind : Kind) (sent : List Mark) : Type 0 where
   pub plan : List Broadcast
   pub lawful : IsLawful d kind plan sent
   pub dense : IsDense d plan sent
+  pub tagged : TagsAreAfter sent
 
--- the log has plans of texts of this form, and of names, that are lawful and dense
+-- the log has plans of texts of this form, and of names, that are lawful and dense, and its tags come after a fragment
 pub record HasPlans (form : TextForm) (d : ℕ) (log : List (Option Message)) : Type 0 where
   pub plans : Plans
   pub lawful : AreLawfulAs (text_kind form) d plans log
   pub dense : AreDense d plans log
+  pub tagged : TagsAreAfter (marks text_mark log)

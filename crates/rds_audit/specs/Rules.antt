@@ -1,12 +1,13 @@
 -- The rules of the audit (this project's own): when a log passes. A log passes if each of its reigns can be a
 -- broadcast, from its start to its last slot, and tags come after a segment. Lists have the newest first.
-use Rattle.std.specs.Prelude.{◌≤◌, ◌<◌, ◌+◌, ℕ, List, Option, length}
+use Rattle.std.specs.Prelude.{◌≤◌, ◌+◌, ℕ, List, Option, length}
 use Rattle.std.specs.List.{AllByRecursion}
 use Rattle.rds_fields.specs.declared.message.Message.{Message}
-use Rattle.rds_fields.specs.Tag.{BothEndIn, PairFields}
+use Rattle.rds_fields.specs.Tag.{BothEndIn}
 use Rattle.rds_receiver.specs.declared.fragment.Fragment.{Fragment}
 use Rattle.rds_safety.specs.Lawful.{Kind, names}
-use Rattle.rds_safety.specs.Marks.{IsMarkIn, Mark, Sends, Tagged, marks, name_mark, text_mark}
+use Rattle.rds_safety.specs.Marks.{Mark, marks, name_mark, text_mark}
+use Rattle.rds_audit.specs.Dense.{TagsAreAfter}
 use Rattle.rds_audit.specs.Forms.{text_kind}
 use Rattle.rds_audit.specs.Reigns.{Reign, SentTags, reigns}
 use Rattle.rds_audit.specs.declared.text_form.TextForm.{TextForm}
@@ -25,17 +26,10 @@ pub record CanBeBroadcast (d : ℕ) (kind : Kind) (r : Reign) : Type 0 where
   pub lasted : AllByRecursion (λ (s : SentTags). r.start + d ≤ s.slot) r.tags
   pub one : HaveOneValue kind r.fragments r.tags
 
--- a fragment was sent before slot t
-pub record IsAfterFragment (sent : List Mark) (t : ℕ) : Type 0 where
-  pub slot : ℕ
-  pub fragment : Fragment
-  pub is_sent : IsMarkIn sent slot (Sends fragment)
-  pub before : slot < t
-
 -- a service passes: each reign can be a broadcast, and tags come after a fragment
 pub record Passes (d : ℕ) (kind : Kind) (sent : List Mark) : Type 0 where
   pub reigns : AllByRecursion (CanBeBroadcast d kind) (reigns d sent)
-  pub tagged : (t : ℕ) (pair : PairFields) → IsMarkIn sent t (Tagged pair) → IsAfterFragment sent t
+  pub tagged : TagsAreAfter sent
 
 -- a log passes: its texts of this form pass, and its names pass
 pub record LogPasses (form : TextForm) (d : ℕ) (log : List (Option Message)) : Type 0 where

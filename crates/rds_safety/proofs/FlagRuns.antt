@@ -22,7 +22,7 @@ use Rattle.rds_safety.specs.Laws.{PlanLaws}
 use Rattle.rds_safety.specs.Marks.{Mark, marks, text_mark}
 use Rattle.rds_safety.proofs.Entries.{in_order_is_heard, one_origin, arrival, entry_beside, mark_sent, one_entry}
 use Rattle.rds_safety.proofs.Entries.{AreFalling, IsPicked, all_picked, segments_fall, fall_below}
-use Rattle.rds_safety.proofs.HeldWhole.{IsIn, came_in, in_below, in_segments, one_covers, tags_are_marked}
+use Rattle.rds_safety.proofs.HeldWhole.{IsIn, after_heard, came_in, in_below, in_segments, one_covers, tags_are_marked}
 use Rattle.rds_safety.proofs.OneBroadcast.{PicksWhatIsMarked, all_of_any, AreJoined, IsOfAny, IsSegmentLike}
 use Rattle.rds_safety.proofs.OneBroadcast.{IsSegmentOf, IsTold, all_like}
 use Rattle.rds_fields.specs.declared.message.Message.TheVariants.{Tags}
@@ -252,7 +252,11 @@ hears_text_before_tags laws d now plan log r law listens often t s u q k pair b 
     let w = arrival log r.input t (Tags pair) (in_order_is_heard log r.input listens.order) (tags_are_marked pair) came
     in
     let slot = one_origin r.input t w.slot s w.from from in
-    let lies = law.tags w.slot pair (mark_sent text_mark log w.slot (Some (Tags pair)) w.sent) in
+    let sent_before : q < w.slot = omega (arith, before, covers.from, slot) in
+    let after = after_heard log r.input record { slot = u; fragment = heard.fragment } q w.slot
+    (in_order_is_heard log r.input listens.order)
+    (record { message = heard.message; came = heard.came; fragment = heard.picked }) heard.from sent_before in
+    let lies = law.tags w.slot pair (mark_sent text_mark log w.slot (Some (Tags pair)) w.sent) after in
     let same =
     one_covers laws d plan lies.number k lies.broadcast b w.slot law.spaced lies.planned planned (omega arith)
     (omega arith) in

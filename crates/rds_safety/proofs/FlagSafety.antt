@@ -36,13 +36,13 @@ use Rattle.rds_safety.specs.OwnClock.{IsHeardByOwnClock}
 use Rattle.rds_safety.specs.Safe.{Listener, NamesPiece, ShowsNoTags}
 use Rattle.rds_safety.specs.Source.{IsSource}
 use Rattle.rds_safety.proofs.OneBroadcast.{AreParts, IsService, get-put, name_service, text_service, PicksWhatIsMarked}
-use Rattle.rds_safety.proofs.OneBroadcast.{IsSegmentLike}
+use Rattle.rds_safety.proofs.OneBroadcast.{IsSegmentLike, is_marked}
 use Rattle.rds_safety.proofs.Entries.{arrival, before_end, in_order_is_heard, mark_sent, one_origin, AreFalling}
 use Rattle.rds_safety.proofs.Entries.{IsPicked, all_picked, segments_fall}
 use Rattle.rds_safety.proofs.FlagRuns.{IsOfOneValue, RunIsOfOneValue, all_before, came_earlier, heard_from, none_passes}
 use Rattle.rds_safety.proofs.FlagRuns.{run_is_of_one_value}
 use Rattle.rds_safety.proofs.HeldWhole.{IsIn, all_in, came_in, first_in, in_below, in_segments, one_covers, names_piece}
-use Rattle.rds_safety.proofs.HeldWhole.{tags_are_marked, was_heard}
+use Rattle.rds_safety.proofs.HeldWhole.{after_heard, tags_are_marked, was_heard}
 use Rattle.rds_safety.proofs.Safety.{name_fragments_marked, text_fragments_marked}
 
 -- ---- values
@@ -187,7 +187,13 @@ module _ (laws : PlanLaws) (d : ℕ) (plan : List Broadcast) (log : List (Option
       let came = arrival log input f.slot (Tags pair) (in_order_is_heard log input order) (tags_are_marked pair) f.came
       in
       let tagged = mark_sent text_mark log came.slot (Some (Tags pair)) came.sent in
-      let lies = law.tags came.slot pair tagged in
+      let began = all_in (IsPicked text_fragment input.first input.heard) (g ∷ before) b.0
+      (picks.0, all_before (IsPicked text_fragment input.first input.heard) g.fragment.flag older picks.1) b.2 in
+      let own = arrival log input b.0.slot began.message (in_order_is_heard log input order)
+      (is_marked text_fragment text_mark began.message b.0.fragment text_fragments_marked began.fragment) began.came in
+      let lies = law.tags came.slot pair tagged (after_heard log input b.0 own.slot came.slot
+      (in_order_is_heard log input order) began own.from
+      (order.rising b.0.slot f.slot own.slot came.slot own.from came.from f.later)) in
       let bytes = value_of_run texts IsWholeText plan input g before x text_service texts_of_no_bytes law.values v whole
       in
       let picked = all_in (IsPicked text_fragment input.first input.heard) (g ∷ before) b.0

@@ -8,20 +8,20 @@ use Rattle.rds_assembly.specs.Body.{AreAllHeld, segment_count, segment_of}
 use Rattle.rds_assembly.specs.Cells.{Cells}
 use Rattle.rds_encoder.specs.Plan.{Broadcast, Covers, HasNumber}
 use Rattle.rds_encoder.specs.Spaced.{IsSpaced}
-use Rattle.rds_receiver.specs.Receipts.{Segment, segments}
+use Rattle.rds_receiver.specs.Receipts.{Segment, segments, text_fragment}
 use Rattle.rds_receiver.specs.declared.fragment.Fragment.{Fragment}
 use Rattle.rds_receiver.specs.Run.{begins_in, cells_of, run, run_at, run_before}
 use Rattle.rds_receiver.specs.Shown.{IsShown, ShowsView, ShownView}
 use Rattle.rds_safety.specs.Late.{CameFrom, HasEntry, Input, IsHeardLate}
-use Rattle.rds_safety.specs.Lawful.{IsLawful, Kind, HasTags}
+use Rattle.rds_safety.specs.Lawful.{IsAfterFragment, IsLawful, Kind, HasTags}
 use Rattle.rds_safety.specs.Marks.{Mark, marks, IsMarkIn, Nothing, Tagged, text_mark}
-use Rattle.rds_safety.specs.Near.{IsHeardNear, IsUnmarked}
+use Rattle.rds_safety.specs.Near.{IsHeard, IsHeardNear, IsUnmarked}
 use Rattle.rds_safety.specs.Flags.{is_same_flag}
 use Rattle.rds_safety.proofs.OneBroadcast.{IsService, SendsItsBody, bytes_of_run, get-put, PicksWhatIsMarked}
 use Rattle.rds_safety.proofs.OneBroadcast.{RunLiesInOne, heard_run_lies, is_marked, LiesInOne, AreOf, IsSegmentOf}
-use Rattle.rds_safety.proofs.OneBroadcast.{source_of}
+use Rattle.rds_safety.proofs.OneBroadcast.{all_before, source_of}
 use Rattle.rds_safety.proofs.Entries.{arrival, mark_sent, AreFalling, IsPicked, all_picked, segments_fall, late_hears}
-use Rattle.rds_safety.proofs.Entries.{own_is_near}
+use Rattle.rds_safety.proofs.Entries.{one_origin, own_is_near}
 use Rattle.rds_safety.specs.Laws.{PlanLaws}
 use Rattle.std.proofs.lemmas.Bool.{cond_both}
 use Rattle.rds_fields.specs.declared.message.Message.TheVariants.{Announce, Tags}
@@ -232,6 +232,37 @@ was_heard first since (x ∷ before) pair e = still_heard first since x before p
 pub tags_are_marked : (pair : PairFields) → IsUnmarked (Some (Tags pair)) → ⊥
 tags_are_marked pair none = (let e : Tagged pair ≡ Nothing = none.text in absurd (cc))
 
+-- each segment of a run was picked from what was heard
+all_run : (P : Segment → Type 0) (m t : ℕ) (gs : List Segment) → AllByRecursion P gs → AllByRecursion P (run m t gs)
+all_run P m t [] all = tt
+all_run P m t (g ∷ older) all = grind (arith, all_before P m g.fragment.flag g.slot older all.1)
+
+run_picked : (m first : ℕ) (heard : List (Option Message))
+    → AllByRecursion (IsPicked text_fragment first heard) (run_at text_fragment m first heard)
+run_picked m first [] = tt
+run_picked m first (x ∷ before) =
+    all_run (IsPicked text_fragment first (x ∷ before)) m (first + length before)
+    (segments text_fragment first (x ∷ before)) (all_picked text_fragment first (x ∷ before))
+
+texts_marked : PicksWhatIsMarked text_fragment text_mark
+texts_marked = record { picked = λ message p e. grind arith; unmarked = λ entry none. none.text }
+
+-- tags that were sent after a segment that was heard came after a fragment
+pub after_heard : (log : List (Option Message)) (input : Input) (g : Segment) (r s : ℕ) → IsHeard log input
+    → IsPicked text_fragment input.first input.heard g → CameFrom input g.slot r → r < s
+    → IsAfterFragment (marks text_mark log) s
+after_heard log input g r s hears p from less =
+    let came = arrival log input g.slot p.message hears
+    (is_marked text_fragment text_mark p.message g.fragment texts_marked p.fragment) p.came in
+    let sent = rw (texts_marked.picked p.message g.fragment p.fragment)
+    at (mark_sent text_mark log came.slot (Some p.message) came.sent) in
+    record {
+      slot = came.slot;
+      fragment = g.fragment;
+      is_sent = sent;
+      before = omega (arith, one_origin input g.slot came.slot r came.from from, less);
+    }
+
 sent_for : PlanLaws → (kind : Kind) (d m t : ℕ) (plan : List Broadcast) (log : List (Option Message)) (input : Input)
     (g : Segment)
     (older : List Segment) (pair : PairFields)
@@ -245,10 +276,13 @@ sent_for laws kind d m t plan log input g older pair law hears l is_run e =
     let f = was_heard input.first b.0.slot input.heard pair (rw b.1 at e) in
     let came = arrival log input f.slot (Tags pair) hears.heard (tags_are_marked pair) f.came in
     let tagged = mark_sent text_mark log came.slot (Some (Tags pair)) came.sent in
-    let lies = law.tags came.slot pair tagged in
     let sent_later =
     hears.tags b.0.slot f.slot own.slot came.slot pair (ap begins_in (sym is_run) ∙ b.1) f.later f.came own.from
     came.from in
+    let picked = all_in (IsPicked text_fragment input.first input.heard) (g ∷ older) b.0
+    (rw (← is_run) at (run_picked m input.first input.heard)) b.2 in
+    let lies = law.tags came.slot pair tagged (after_heard log input b.0 own.slot came.slot hears.heard picked own.from
+    sent_later) in
     search arith
 
 -- the bytes shown of a tag are its piece

@@ -143,7 +143,7 @@ RunLiesInOne d t kind plan input [] = Unit {0}
 RunLiesInOne d t kind plan input (g ∷ older) = LiesInOne d t kind plan input g older
 
 -- each segment of a run is one of the segments
-all_before : (P : Segment → Type 0) (m : ℕ) (f : Bool) (s : ℕ) (gs : List Segment) → AllByRecursion P gs
+pub all_before : (P : Segment → Type 0) (m : ℕ) (f : Bool) (s : ℕ) (gs : List Segment) → AllByRecursion P gs
     → AllByRecursion P (run_before m f s gs)
 all_before P m f s [] all = tt
 all_before P m f s (g ∷ older) all = grind (arith, all_before P m f g.slot older all.1)

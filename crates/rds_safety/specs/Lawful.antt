@@ -61,9 +61,18 @@ pub record HasOne (plan : List Broadcast) (Is : Broadcast → Type 0) : Type 0 w
   pub planned : HasNumber plan number broadcast
   pub is : Is broadcast
 
--- the plan is lawful, with a spacing of d slots, for these marks of the service
+-- a fragment was sent before this slot
+pub record IsAfterFragment (sent : List Mark) (t : ℕ) : Type 0 where
+  pub slot : ℕ
+  pub fragment : Fragment
+  pub is_sent : IsMarkIn sent slot (Sends fragment)
+  pub before : slot < t
+
+-- the plan is lawful, with a spacing of d slots, for these marks of the service; tags before the first fragment do not
+-- count, since no receiver shows them
 pub record IsLawful (d : ℕ) (kind : Kind) (plan : List Broadcast) (sent : List Mark) : Type 0 where
   pub spaced : IsSpaced d plan
   pub values : (k : ℕ) (b : Broadcast) → HasNumber plan k b → kind.IsValue b.bytes
   pub fragments : (slot : ℕ) (p : Fragment) → IsMarkIn sent slot (Sends p) → HasOne plan (HasFragment kind slot p)
-  pub tags : (slot : ℕ) (pair : PairFields) → IsMarkIn sent slot (Tagged pair) → HasOne plan (HasTags d slot pair)
+  pub tags : (slot : ℕ) (pair : PairFields) → IsMarkIn sent slot (Tagged pair) → IsAfterFragment sent slot
+      → HasOne plan (HasTags d slot pair)

@@ -19,8 +19,8 @@ use Rattle.rds_receiver.specs.declared.fragment.Fragment.{Fragment}
 use Rattle.rds_safety.specs.Lawful.{HasOne, HasFragment, HasTags, IsFragmentOf, IsLawful, Kind, names, texts}
 use Rattle.rds_safety.specs.Marks.{IsMarkIn, Mark, Sends, Tagged, marks, name_mark, text_mark}
 use Rattle.rds_safety.proofs.Entries.{marks_long}
-use Rattle.rds_world.specs.Station.{AreEndedSlots, EndsASlot, IsFreeIn, IsValid, TheEncoderIsLawful, slots_in}
-use Rattle.rds_world.specs.Station.{station_plans}
+use Rattle.rds_world.specs.Station.{AreEndedSlots, EachPairHasItsBroadcast, EndsASlot, IsFreeIn, IsValid}
+use Rattle.rds_world.specs.Station.{TheEncoderIsLawful, slots_in, station_plans}
 
 -- the laws about each encoder
 pub record EncoderLaws : Type 0 where
@@ -184,13 +184,21 @@ tags_of_mark sent pair e = grind arith
 no_tags_of_names : (sent : Option Message) (pair : PairFields) → Tagged pair ≡ name_mark sent → ⊥
 no_tags_of_names sent pair e = grind arith
 
+-- each pair of tags that was sent has its broadcast
+pub each_pair : EncoderLaws → EachPairHasItsBroadcast
+each_pair laws d told some slots slot pair sent =
+    let w = sent_in_slot IsText text_mark text_moves text_service d told slot (Tagged pair) sent in
+    let air = laws.tags d w.free w.before pair (tags_of_mark (sent_in d w.free w.before) pair w.is) in
+    let own = laws.ends d w.before pair air.2 in
+    search (arith, planned_then, text_service, has_tags)
+
 texts_lawful : EncoderLaws → (d : ℕ) (told : List Entry) → 0 < d → AreEndedSlots told
     → IsLawful d texts (station_plans d told).text (marks text_mark (sent_log d told))
 texts_lawful laws d told some slots = record {
   spaced = plan_spaced IsText text_mark text_moves text_service laws d told some slots.texts slots.ended;
   values = plan_values IsText text_mark text_moves text_service laws d told slots.valid;
   fragments = fragments;
-  tags = tags;
+  tags = λ slot pair sent after. each_pair laws d told some slots slot pair sent;
 }
   where
     fragments : (slot : ℕ) (p : Fragment) → IsMarkIn (marks text_mark (sent_log d told)) slot (Sends p)
@@ -201,21 +209,13 @@ texts_lawful laws d told some slots = record {
         let planned = planned_then IsText text_mark text_moves text_service laws d told slot (Sends p) w air.0 air.1 in
         grind (arith, has_fragment texts (λ x p is. is) slot p (station_plans d told).text air.0 air.2)
 
-    tags : (slot : ℕ) (pair : PairFields) → IsMarkIn (marks text_mark (sent_log d told)) slot (Tagged pair)
-        → HasOne (station_plans d told).text (HasTags d slot pair)
-    tags slot pair sent =
-        let w = sent_in_slot IsText text_mark text_moves text_service d told slot (Tagged pair) sent in
-        let air = laws.tags d w.free w.before pair (tags_of_mark (sent_in d w.free w.before) pair w.is) in
-        let own = laws.ends d w.before pair air.2 in
-        search (arith, planned_then, text_service, has_tags)
-
 names_lawful : EncoderLaws → (d : ℕ) (told : List Entry) → 0 < d → AreEndedSlots told
     → IsLawful d names (station_plans d told).name (marks name_mark (sent_log d told))
 names_lawful laws d told some slots = record {
   spaced = plan_spaced IsName name_mark name_moves name_service laws d told some slots.names slots.ended;
   values = plan_values IsName name_mark name_moves name_service laws d told slots.valid;
   fragments = fragments;
-  tags = λ slot pair sent. absurd (no_tags_of_names _ pair (sent_in_slot IsName name_mark name_moves name_service d told
+  tags = λ slot pair sent after. absurd (no_tags_of_names _ pair (sent_in_slot IsName name_mark name_moves name_service d told
       slot (Tagged pair) sent).is);
 }
   where

@@ -3,11 +3,14 @@
 -- at most one command, are a case of this. Lists have the newest first, and the station's spacing is d.
 use Rattle.std.specs.Prelude.{◌≡◌, ◌<◌, ◌+◌, ◌-◌, ◌⊎◌, ℕ, true, List, [], ◌∷◌}
 use Rattle.std.specs.List.{All, AllByRecursion}
+use Rattle.rds_fields.specs.Tag.{PairFields}
 use Rattle.rds_assembly.specs.Value.{IsName, IsText}
 use Rattle.rds_encoder.specs.Entries.{Entry, Restart, SetText, SetName, SetTags, Tick, name_moves, slot_of, text_moves}
 use Rattle.rds_encoder.specs.Plan.{plan_of}
 use Rattle.rds_encoder.specs.Sent.{sent_log}
 use Rattle.rds_encoder.specs.Spaced.{RestartsComeFirst}
+use Rattle.rds_safety.specs.Lawful.{HasOne, HasTags}
+use Rattle.rds_safety.specs.Marks.{IsMarkIn, Tagged, marks, text_mark}
 use Rattle.rds_safety.specs.Plans.{AreLawful, Plans}
 use Rattle.rds_safety.specs.Safe.{AreSafeViews, Listener, ListensTo}
 use Rattle.rds_world.specs.Event.{Event}
@@ -61,6 +64,14 @@ pub record AreEndedSlots (told : List Entry) : Type 0 where
 abbrev pub TheEncoderIsLawful : Type 0
 TheEncoderIsLawful =
     (d : ℕ) (told : List Entry) → 0 < d → AreEndedSlots told → AreLawful d (station_plans d told) (sent_log d told)
+
+-- each pair of tags that the encoder sends is of a text of its plan: the text started at least d slots before, it has
+-- not ended, and both tags end in it
+abbrev pub EachPairHasItsBroadcast : Type 0
+EachPairHasItsBroadcast =
+    (d : ℕ) (told : List Entry) → 0 < d → AreEndedSlots told
+    → (slot : ℕ) (pair : PairFields) → IsMarkIn (marks text_mark (sent_log d told)) slot (Tagged pair)
+    → HasOne (station_plans d told).text (HasTags d slot pair)
 
 -- the slots of a world are such slots, with the same log and the same plans
 pub record AreSlotsToo (d : ℕ) (events : List Event) : Type 0 where

@@ -8,7 +8,8 @@ ghost use Rattle.rds_world.specs.FlagStation.{TextsOfAStationAreNew, TextsOfASta
 ghost use Rattle.rds_world.specs.FlagStation.{TheEmptyTextIsEnough};
 ghost use Rattle.rds_world.specs.FlagStation.{TheStationKeepsEach, TheStationTurnsTheFlag};
 ghost use Rattle.rds_world.specs.SafeSlots.{EveryWorldShowsOnlyWhatWasOnAir};
-ghost use Rattle.rds_world.specs.Station.{SlotsOfAWorldAreSlots, TheEncoderIsLawful, WhoHearsAStationIsSafe};
+ghost use Rattle.rds_world.specs.Station.{EachPairHasItsBroadcast, SlotsOfAWorldAreSlots, TheEncoderIsLawful};
+ghost use Rattle.rds_world.specs.Station.{WhoHearsAStationIsSafe};
 ghost use Rattle.rds_world.specs.ConfirmedStation.{WhoConfirmsAStationIsSafe};
 ghost use Rattle.rds_world.specs.Wrong.{TheFitKeepThePremise};
 
@@ -18,10 +19,16 @@ use rds_encoder::{
 };
 use rds_safety::{often_is_enough, safe_by_plans, safe_by_the_flag, safe_if_confirmed};
 
-/// States that the messages of an encoder are lawful for its plans, whatever it sets in its slots.
-#[tactic(auto, using(std::proofs::lemmas::Bool::Decides::nat_tests, crate::proofs::LawfulStation::lawful_station))]
+/// States that the messages of an encoder are lawful for its plans, whatever it sets in its slots, and that each pair of
+/// tags that it sends is of a text of its plan.
+#[tactic(auto, using(
+    std::proofs::lemmas::Bool::Decides::nat_tests,
+    crate::proofs::LawfulStation::lawful_station,
+    crate::proofs::LawfulStation::each_pair,
+))]
 pub fn the_encoder_is_lawful()
-    ensures { TheEncoderIsLawful }
+    ensures lawful { TheEncoderIsLawful }
+    ensures pairs { EachPairHasItsBroadcast }
 {
     broadcasts_are_spaced();
     on_air_from_its_start_on();

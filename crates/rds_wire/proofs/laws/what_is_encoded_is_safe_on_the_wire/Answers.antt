@@ -13,7 +13,7 @@ returns c = encoded_is_safe
       source = c.one_source.ensures;
     }
     record {
-      lawful = c.the_encoder_is_lawful.ensures;
+      lawful = c.the_encoder_is_lawful.ensures.lawful;
       slots = c.a_station_is_safe.ensures.world;
       tags = c.sent_is_of_what_is_on_air.ensures.tags;
     }
