@@ -1,5 +1,6 @@
 //! How an audit takes a slot, and what it says of the log.
 ghost use Rattle.std.specs.Prelude.{◌≡◌, ◌+◌, ◌<◌, ◌↔◌, ◌⊎◌, ℕ, true, false, List, Option, None, Some, IsTrue};
+ghost use Rattle.std.specs.Prelude.{unwrap_or};
 ghost use Rattle.rds_block.specs.declared.group.Group.{Group};
 ghost use Rattle.rds_fields.specs.declared.message.Message.{Message};
 ghost use Rattle.rds_receiver.specs.Receipts.{heard_in, heard_of};
@@ -10,6 +11,7 @@ ghost use Rattle.rds_audit.specs.AuditLaws.{IsSafeLog, IsSafeRecording};
 ghost use Rattle.rds_audit.specs.AuditAt.{AuditAt, AuditTakesSlot, EndsSlot, KeepsLog, ListsMessage};
 ghost use Rattle.rds_audit.specs.AuditAt.{TakesAll, WhereTheAuditStands};
 ghost use Rattle.rds_audit.specs.Dense.{HasPlans};
+ghost use Rattle.rds_audit.specs.Listing.{none_broken};
 ghost use Rattle.rds_audit.specs.FlagLaws.{NamesAreSafeByFlag, TextsAreSafeByFlag};
 ghost use Rattle.rds_audit.specs.Reigns.{AlternateFlags, reigns};
 ghost use Rattle.rds_audit.specs.Rules.{LogPasses};
@@ -58,13 +60,11 @@ impl Audit {
     pub fn all_faults(&mut self, group: Option<Blocks>) -> FaultSet
         ensures { TakesAll self.old self.new group result }
     {
-        let found = self.hear_group(group);
-        if found.is_empty() {
-            // most slots: the compiler then tests the faults of a slot once
+        let Some(found) = self.hear_group(group) else {
             self.end_slot();
             return FaultSet::none();
-        }
-        self.end_faulty(found.first());
+        };
+        self.end_new(found.first());
         found
     }
 
@@ -118,27 +118,28 @@ impl Audit {
         self.passed() && self.name.reigns.turns != 0
     }
 
-    /// Takes the group of this slot, if it is one of the programme.
+    /// Takes the group of this slot, if it is one of the programme. Returns the faults that it adds to the list, or
+    /// `None` if it can add none. Most groups can add none.
     #[inline(always)]
     #[tactic(auto, using(crate::proofs::ListingSteps::nothing_listed, crate::proofs::SpanSteps::nothing_counts))]
-    fn hear_group(&mut self, group: Option<Blocks>) -> FaultSet
+    fn hear_group(&mut self, group: Option<Blocks>) -> Option<FaultSet>
         ensures keeps { KeepsLog self.old self.new }
         ensures fault { fault_of self.new ≡ fault_of self.old }
-        ensures lists { ListsMessage self.old self.new (heard_in self.old.pi group) result }
+        ensures lists { ListsMessage self.old self.new (heard_in self.old.pi group) (unwrap_or result none_broken) }
     {
         match heard_blocks(self.pi, group) {
             Some(message) => self.hear(message),
-            None => FaultSet::none(),
+            None => None,
         }
     }
 
     /// Takes a message of the programme that was sent in this slot. Tags before the first text segment of a running
     /// station are not judged: their text may have been sent before the log.
     #[inline(always)]
-    fn hear(&mut self, message: Message) -> FaultSet
+    fn hear(&mut self, message: Message) -> Option<FaultSet>
         ensures keeps { KeepsLog self.old self.new }
         ensures fault { fault_of self.new ≡ fault_of self.old }
-        ensures lists { ListsMessage self.old self.new (Some message) result }
+        ensures lists { ListsMessage self.old self.new (Some message) (unwrap_or result none_broken) }
     {
         let distance = self.distance;
         match message {
@@ -160,13 +161,13 @@ impl Audit {
                 .take::<Names>(distance, Fragment::new(flag, address, bytes)),
             Message::Tags(pair) => {
                 if self.awaits_text() {
-                    FaultSet::none()
+                    None
                 } else {
                     self.tags = self.tags.saturating_add(1);
-                    self.text.take_text_tags(self.is_padded, distance, pair)
+                    Some(self.text.take_text_tags(self.is_padded, distance, pair))
                 }
             }
-            Message::Announce { .. } | Message::Other => FaultSet::none(),
+            Message::Announce { .. } | Message::Other => None,
         }
     }
 
@@ -180,10 +181,10 @@ impl Audit {
         self.is_running != 0 && self.text.reigns.is_open == 0
     }
 
-    /// Ends a slot that adds this fault first. The fault is kept if there was none before.
+    /// Ends a slot that adds this fault first, if it adds one. The fault is kept if there was none before.
     // Cold path.
     #[inline(never)]
-    fn end_faulty(&mut self, fault: Option<AuditFault>)
+    fn end_new(&mut self, fault: Option<AuditFault>)
         ensures keeps { KeepsLog self.old self.new }
         ensures first { fault_of self.old ≡ None → fault_of self.new ≡ fault }
         ensures again { (known : AuditFault) → fault_of self.old ≡ Some known → fault_of self.new ≡ Some known }

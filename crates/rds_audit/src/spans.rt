@@ -1,9 +1,10 @@
 //! The spans of a service: what a list of faults judges.
-ghost use Rattle.std.specs.Prelude.{◌≡◌, ◌+◌, ◌≤◌, ◌<◌, ◌^◌, ℕ, List};
+ghost use Rattle.std.specs.Prelude.{◌≡◌, ◌+◌, ◌≤◌, ◌<◌, ◌^◌, ℕ, List, unwrap_or};
 ghost use Rattle.rds_audit.specs.Lengths.{gauge_of};
 ghost use Rattle.rds_audit.specs.AuditAt.{HoldsSpans, TakesMark};
 ghost use Rattle.rds_fields.specs.Stored.{is_set};
 ghost use Rattle.rds_audit.specs.AuditState.{aged_in, form_if, judged_ends, opened_in, put_in, repeated_in, tagged_in};
+ghost use Rattle.rds_audit.specs.Listing.{none_broken};
 ghost use Rattle.rds_audit.specs.Stored.{spans_stored};
 ghost use Rattle.rds_audit.specs.Recording.{silent_as};
 ghost use Rattle.rds_safety.specs.Marks.{Mark, Sends, Tagged};
@@ -45,10 +46,15 @@ impl StoredSpans {
 
     /// Does what [`take`](Self::take) does for texts of the stored form.
     #[inline(always)]
-    pub(crate) fn take_text(&mut self, is_padded: u8, distance: u32, fragment: Fragment) -> FaultSet
+    pub(crate) fn take_text(
+        &mut self,
+        is_padded: u8,
+        distance: u32,
+        fragment: Fragment,
+    ) -> Option<FaultSet>
         requires { fragment.address < 16 }
         ensures { TakesMark (gauge_of (form_if (is_set is_padded))) distance (Sends fragment) (spans_stored self.old)
-            (spans_stored self.new) result }
+            (spans_stored self.new) (unwrap_or result none_broken) }
     {
         if is_padded == 0 {
             self.take::<Texts>(distance, fragment)
@@ -70,20 +76,21 @@ impl StoredSpans {
     }
 
     /// Takes a segment that was sent in this slot: it joins the current span, or opens one. Returns the faults that it
-    /// adds to the list.
+    /// adds to the list, or `None` for a segment that the span has already. So most slots compare no faults.
     #[inline(always)]
-    pub(crate) fn take<S: Audited>(&mut self, distance: u32, fragment: Fragment) -> FaultSet
+    pub(crate) fn take<S: Audited>(&mut self, distance: u32, fragment: Fragment) -> Option<FaultSet>
         requires { fragment.address < S.gauge.segments }
-        ensures { TakesMark S.gauge distance (Sends fragment) (spans_stored self.old) (spans_stored self.new) result }
+        ensures { TakesMark S.gauge distance (Sends fragment) (spans_stored self.old) (spans_stored self.new)
+            (unwrap_or result none_broken) }
     {
         if self.reigns.joins(distance, fragment.flag)
             && self.reigns.has(fragment.address, fragment.bytes)
         {
             // what the span has already breaks no further rule
             self.reigns.renew();
-            return FaultSet::none();
+            return None;
         }
-        self.take_new::<S>(distance, fragment)
+        Some(self.take_new::<S>(distance, fragment))
     }
 
     /// Does the same for any segment.

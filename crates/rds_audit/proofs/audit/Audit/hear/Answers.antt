@@ -1,6 +1,8 @@
 use Rattle.std.proofs.Common.{arith, ◌≡◌, ◌∙◌, Some, ap, inl, inr, refl, sym}
+use Rattle.std.specs.Prelude.{unwrap_or}
 use Rattle.rds_fields.specs.declared.message.Message.TheVariants.{Tags}
 use Rattle.rds_receiver.specs.Receipts.{name_of, text_of}
+use Rattle.rds_audit.specs.Listing.{none_broken}
 use Rattle.rds_audit.proofs.ListingSteps.{names_listed, nothing_listed, text_open, texts_listed}
 use Rattle.rds_audit.proofs.SpanSteps.{announcement_counts, name_counts, tags_complete, tags_count, tags_silent}
 use Rattle.rds_audit.proofs.SpanSteps.{text_counts}
@@ -10,19 +12,19 @@ pub returns-in-Text-clause-lists : goal.returns-in-Text-clause-lists
 returns-in-Text-clause-lists c =
     let is : c.args.message ≡ text_of c.new.result = c.in-Text.is ∙ sym (ap text_of c.new.ensures.place) in
     rw is (texts_listed c.args.self.now _ _ (Some (text_of c.new.result))
-    c.take_text.result refl (λ judged h. text_counts _ judged _ _ _) c.take_text.ensures)
+    (unwrap_or c.take_text.result none_broken) refl (λ judged h. text_counts _ judged _ _ _) c.take_text.ensures)
 
 pub returns-in-Name-clause-lists : goal.returns-in-Name-clause-lists
 returns-in-Name-clause-lists c =
     let is : c.args.message ≡ name_of c.new-in-Name.result = search arith in
     rw is (names_listed c.args.self.now _ (Some (name_of c.new-in-Name.result))
-    c.take.result refl (λ judged h. name_counts _ judged _ _ _) c.take.ensures)
+    (unwrap_or c.take.result none_broken) refl (λ judged h. name_counts _ judged _ _ _) c.take.ensures)
 
 pub returns-then-awaits_text-clause-lists : goal.returns-then-awaits_text-clause-lists
 returns-then-awaits_text-clause-lists c =
     let early = c.awaits_text.ensures.early c.if-awaits_text.true in
     rw c.in-Tags.is
-    (nothing_listed _ _ c.none.result c.none.ensures
+    (nothing_listed _ _ none_broken refl
     (λ judged h. tags_silent _ judged c.in-Tags.pair early.0
     (sym (text_open _ judged _ h) ∙ early.1)))
 
@@ -37,4 +39,4 @@ returns-else-awaits_text-clause-lists c =
 
 pub returns-in-Announce-clause-lists : goal.returns-in-Announce-clause-lists
 returns-in-Announce-clause-lists c =
-    grind (arith, nothing_listed, announcement_counts, c.in-Announce.is, c.none-in-Announce.ensures)
+    grind (arith, nothing_listed, announcement_counts, c.in-Announce.is)
