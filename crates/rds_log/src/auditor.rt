@@ -18,6 +18,7 @@ use crate::person::harmless::AllChanges;
 use crate::person::notes::{LogNotes, NoNote};
 use crate::verdict::{ANSWER_ROOM, push_no, push_yes};
 use rds_audit::{Audit, AuditFault, FaultSet};
+use rds_block::Blocks;
 use rds_fields::TagGroup;
 use rds_io::{Lines, TellingWrite, WriteFault};
 use rds_lines::{Heard, LogLine, News, OUTPUT_ROOM, Source, TakesLines};
@@ -85,7 +86,7 @@ impl TakesLines for Auditor {
                     return Ok(true);
                 }
                 self.changes.note(slot, &self.audit, found);
-                self.fail(slot, found, LogLine::Slot(failed), source, output);
+                self.fail(slot, found, failed, source, output);
                 Ok(!self.is_done)
             }
         }
@@ -124,14 +125,14 @@ impl Auditor {
         }
     }
 
-    /// Appends the lines of the faults of this slot, and takes a note on them.
-    // Cold path.
+    /// Appends the lines of the faults of this slot with this group, and takes a note on them.
+    // Cold path. The line of the group is made here, and so not in slots without a fault.
     #[inline(never)]
     fn fail(
         &mut self,
         slot: u64,
         found: FaultSet,
-        said: LogLine,
+        group: Option<Blocks>,
         source: &Source,
         output: &mut Lines<OUTPUT_ROOM>,
     )
@@ -144,6 +145,7 @@ impl Auditor {
             ≡ record self.old { is_done = self.new.is_done; faults = self.new.faults; no = self.new.no } }
     {
         let place = FaultPlace::of(slot, source);
+        let said = LogLine::Slot(group);
         match self.stop {
             Stop::FirstFault => {
                 let Some(fault) = found.first() else {
