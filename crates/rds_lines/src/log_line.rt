@@ -52,47 +52,61 @@ impl Block {
 }
 
 /// Returns the meaning of a line, from its first bytes. `None` for a malformed line.
+// With `?` in the cold paths, the lines of groups do not clear the room of their results.
 #[inline(always)]
 pub(crate) fn said_by(line: &[u8]) -> Option<LogLine>
     ensures some { IfSome result (LineSays line.now) }
     ensures none { IfNone result (IsBad line.now) }
 {
+    if !is_laid_out(line) {
+        let said = said_of_no_slot(line)?;
+        return Some(said);
+    }
     if let Some(group) = group_of(line) {
         return Some(LogLine::Slot(Some(group)));
     }
-    let said = said_otherwise(line)?;
+    let said = said_of_blocks(line)?;
     Some(said)
 }
 
 /// Returns the group of a line with four words, as most lines are.
 #[inline(always)]
 fn group_of(line: &[u8]) -> Option<Blocks>
+    requires { IsLaidOut line.now }
     ensures { IfSome result (λ group. LineSays line.now (LogLine.Slot (Some group))) }
 {
-    if !is_laid_out(line) {
-        return None;
-    }
     let words = four_words(line)?;
     Some(Blocks::new(words))
 }
 
-/// Returns the meaning of any line.
+/// Returns the meaning of a line that is not laid out as a slot.
 // Cold path.
 #[inline(never)]
-#[tactic(auto, using(crate::proofs::Cutting::bad_by_slot))]
-fn said_otherwise(line: &[u8]) -> Option<LogLine>
+fn said_of_no_slot(line: &[u8]) -> Option<LogLine>
+    requires { IsLaidOut line.now → ⊥ }
     ensures some { IfSome result (LineSays line.now) }
     ensures none { IfNone result (IsBad line.now) }
 {
-    let length = content_length(line);
-    if is_laid_out(line) && has_no_word(line) {
-        return Some(LogLine::Slot(None));
-    }
-    if is_skipped(line, length) {
+    if is_skipped(line, content_length(line)) {
         return Some(LogLine::Skip);
     }
-    if !is_laid_out(line) {
-        return None;
+    None
+}
+
+/// Returns the meaning of a line that is laid out as a slot.
+// Cold path.
+#[inline(never)]
+#[tactic(auto, using(crate::proofs::Cutting::bad_by_slot))]
+fn said_of_blocks(line: &[u8]) -> Option<LogLine>
+    requires { IsLaidOut line.now }
+    ensures some { IfSome result (LineSays line.now) }
+    ensures none { IfNone result (IsBad line.now) }
+{
+    if has_no_word(line) {
+        return Some(LogLine::Slot(None));
+    }
+    if is_skipped(line, content_length(line)) {
+        return Some(LogLine::Skip);
     }
     let slot = slot_of_blocks(line)?;
     Some(LogLine::Slot(slot))
@@ -149,7 +163,19 @@ fn has_text(line: &[u8]) -> bool
 fn is_blocks_alone(line: &[u8]) -> bool
     ensures { IsTrue result ↔ ((content_length line.now ≡ 19) × HasSpaces line.now) }
 {
-    content_length(line) == BLOCKS && has_spaces(line)
+    ends_at_blocks(line) && has_spaces(line)
+}
+
+/// Returns whether a line has as many bytes as the blocks, beside one carriage return at its end.
+#[inline(always)]
+fn ends_at_blocks(line: &[u8]) -> bool
+    ensures { IsTrue result ↔ (content_length line.now ≡ 19) }
+{
+    match line.len() {
+        19 => line[18] != b'\r',
+        20 => line[19] == b'\r',
+        _ => false,
+    }
 }
 
 /// Returns whether there are spaces between the blocks.

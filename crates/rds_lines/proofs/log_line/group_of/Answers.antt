@@ -16,7 +16,7 @@ four_of (a ∷ b ∷ c ∷ d ∷ x ∷ rest) e = absurd (omega arith)
 pub returns : goal.returns
 returns c =
     let ws = c.in_ok-words.words in (
-      c.is_laid_out.ensures.0 c.if-not-is_laid_out.false,
+      c.requires,
       record {
         a = Word (slice_index ws 0);
         b = Word (slice_index ws 1);
