@@ -67,6 +67,8 @@ impl Audited for Texts {
 
     ghost some = { texts_have_lengths };
 
+    // Not inlined: its numbers of 128 bits would stay in the frame of the caller.
+    #[inline(never)]
     fn lengths_with(place: u8, byte: u8) -> u128 {
         let text = if_so(is_text_byte(byte), from(place + 1));
         let end = if_so(byte == CARRIAGE_RETURN, from(place) & below(place + 1));
@@ -101,6 +103,8 @@ impl Audited for PaddedTexts {
 
     ghost some = { texts_have_lengths };
 
+    // Not inlined: its numbers of 128 bits would stay in the frame of the caller.
+    #[inline(never)]
     fn lengths_with(place: u8, byte: u8) -> u128 {
         let text = if_so(is_text_byte(byte), from(place + 1));
         let end = if_so(byte == CARRIAGE_RETURN, from(place) & below(place + 1));
@@ -166,6 +170,8 @@ fn from(length: u8) -> u128
 }
 
 /// Returns the lengths of the values in which these bytes may stand at this address.
+// Not inlined, like `lengths_with`.
+#[inline(never)]
 pub(crate) fn lengths_at<S: Audited>(address: u8, bytes: [u8; 4]) -> u128
     requires { address < 16 }
     ensures { result ≡ those (λ n. may_stand S.gauge n (4 * address) bytes) 65 }
