@@ -91,6 +91,7 @@ impl Message {
     }
 
     /// Returns the group that is written for the message with this head. `None` for `Other`, which many groups spell.
+    #[inline(always)]
     pub fn group(&self, head: Head) -> Option<Group>
         ensures written { IfSome result (IsWritten self.now head) }
         ensures one { IfSome result (λ g. (h : Group) → IsWritten self.now head h → h ≡ g) }
