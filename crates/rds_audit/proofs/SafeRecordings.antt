@@ -125,9 +125,3 @@ pub safe_recording : PassesExactlyByPlans → PlansOfARecordingAreSafe → LateI
 safe_recording law own late slow form m k log pos p =
     let w = (law form (m + k) (from_first_text (preceded (m + k) log)) (omega arith)).0 p in
     search (arith, late_is_own)
-
--- the audit of a running station judged the log with m + k slots in front
-pub safe_as_it_is : WhatPassesAsARecordingIsSafe → (form : TextForm) (m k : ℕ) (start : LogStart)
-    (heard : List (Option Message)) → start ≡ Running → 0 < m → LogPasses form (m + k) (judged_as start (m + k) heard)
-    → IsSafeRecording form m k heard
-safe_as_it_is law form m k start heard running pos passes = grind (arith)

@@ -9,7 +9,6 @@ pub mod Sent
 pub mod Spaced
 pub mod Laws
 pub mod Delivery
-pub mod Known
 -- The numbers of the code. Callers do not need them.
 pub mod State
 pub mod Numbers

@@ -65,9 +65,6 @@ sent_is s p =
       extra_two = e8 i;
     }
 
-pub same_sent : (s t : Sent) → FitsBits s → FitsBits t → field_bits s ≡ field_bits t → s ≡ t
-same_sent s t p q e = sent_is s p ∙ ap sent_in e ∙ sym (sent_is t q)
-
 pair_is : (n : ℕ) (p : PairFields) (s : Sent) → SpellsPair p n s → p ≡ pair_read (sent_in n)
 pair_is n p s a =
     let fields : s ≡ sent_in n = sent_is s a.fits ∙ ap sent_in (sym a.bits) in

@@ -162,18 +162,3 @@ says_group line a b c d g first second third fourth words = record {
   fourth = fourth;
   carried = (g, words, refl);
 }
-
--- and dashes say a lost slot
-pub says_none : (line : Line) → HasDashes line 0 → HasDashes line 5 → HasDashes line 10 → HasDashes line 15
-    → SaysSlot line None
-says_none line first second third fourth = record {
-  a = Missing;
-  b = Missing;
-  c = Missing;
-  d = Missing;
-  first = first;
-  second = second;
-  third = third;
-  fourth = fourth;
-  carried = refl;
-}

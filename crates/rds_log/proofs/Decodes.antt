@@ -167,12 +167,6 @@ alike how text r w q v given same a b =
 
 -- ---- what the answer of an audit means
 
--- a log that passes is safe as it is
-pub safe_as_it_is : WhatPassesIsSafe → WhatPassesAsARecordingIsSafe
-    → (start : LogStart) (form : TextForm) (m k : ℕ) (heard : List (Option Message)) → 0 < m
-    → LogPasses form (m + k) (judged_as start (m + k) heard) → IsSafe start form m k heard
-safe_as_it_is complete running start form m k heard pos passes = grind arith
-
 -- a yes goes with slots that pass, and a no with slots that fail
 pub meaning : (a : Auditing) (reads : ℕ) (r w : Traffic) (result : Result Bool LogFault)
     → ((slots : List (Option Group)) → SlotsPass a slots → SlotsAreSafe a slots)

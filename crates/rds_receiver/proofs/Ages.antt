@@ -116,10 +116,6 @@ look_older m rest s one later lasts h =
     looked m rest s one (record one { later = later }) lasts h.within h.stays h.due h.soon
     (λ i. record one { later = h.is i })
 
--- a stored pair that is not there is none
-pub no_pair : (p : StoredPair) → p.is_there ≡ 0 → pair_stored p ≡ None
-no_pair p none = cond-false (is_set p.is_there) (Some (fields_stored p)) None (ap not (eq-eqb p.is_there 0 none))
-
 -- a receiver after a look; `text` and `name` are the segments before the next look is set
 pub receiver_looked : (r : StoredDisplay) (rest : ℕ) (text name : StoredSegments) (later later_name : ℕ)
     (pair : StoredPair) → IsStoredDisplay (record r { rest = 1 })

@@ -247,10 +247,6 @@ receiver k n j = record { input = input k n j; view = view k n }
 listens : (k n : ℕ) → ListensTo k (n + 2) (n + k + 1) (log (n + k)) (receiver k n (n + k))
 listens k n = record { late = is_late k n; now = omega (arith, quiet_long n); shows = shows k n }
 
--- no broadcast has that text, so it was not on air
-pub one_byte : (a b : ℕ) (xs ys : List ℕ) → ◌≡◌ {A = List ℕ} (a ∷ xs) (b ∷ ys) → a ≡ b
-one_byte a b xs ys e = cc
-
 -- no broadcast of the plan is the mix
 pub of_none : (c k : ℕ) (b : Broadcast) → HasNumber (plan c) k b → b.bytes ≡ mix → ⊥
 of_none c k b p same = grind (arith, which c k b p)

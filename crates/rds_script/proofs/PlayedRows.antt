@@ -61,11 +61,6 @@ pub names_receivers : (k : Config) (form : Form) (row : Record) (records : List 
 names_receivers k form row records e says none [] say = say.rows
 names_receivers k form row records e says none (f ∷ older) say = grind (arith, same_count row e f)
 
--- a row that says no event ends the rows of a script
-pub says_none : (k : Config) (form : Form) (row : Record) (records : List Record)
-    → ((e : Event) → length e.receptions ≤ MOST_RECEIVERS → SaysEvent row e → ⊥) → AreNoRows k form (row ∷ records)
-says_none k form row records none p5 say = grind arith
-
 -- rows of one script have one number of receivers
 same_receivers : (k : Config) (n other : ℕ) (records : List Record) (events older : List Event)
     → AreRows k n records events → AreRows k other records older → 0 < length records → n ≡ other

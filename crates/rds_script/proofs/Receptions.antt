@@ -35,9 +35,6 @@ wider : (digits : List ℕ) → AllDigits 10 digits → AllDigits 16 digits
 wider [] all = tt
 wider (b ∷ digits) all = grind (arith, wider digits)
 
-four : {A B C D E : Type 0} → A → B → C → D → E → A × (B × (C × (D × E)))
-four a b c d others = (a, (b, (c, (d, others))))
-
 twelve : (digits : List ℕ) (message : Message) → IsWrongGroup digits message → AllDigits 16 digits
 twelve (a ∷ b ∷ c ∷ d ∷ e ∷ f ∷ g ∷ h ∷ i ∷ j ∷ k ∷ l ∷ []) message has = grind arith
 twelve digits message has = absurd (omega (arith, has.count))

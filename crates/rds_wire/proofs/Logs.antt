@@ -284,9 +284,6 @@ abbrev AreSendable : Option Message → Type 0
 AreSendable None = Unit {0}
 AreSendable (Some message) = IsSendable message
 
-sends : (d place : ℕ) (before : List Entry) → AreSendable (sent_at_turn d (turn_in place) before)
-sends d place before = grind arith
-
 -- an encoder sends only such messages
 pub sent_is_sendable : (d : ℕ) (free : Bool) (before : List Entry) → AreSendable (sent_in d free before)
 sent_is_sendable d free before = grind arith

@@ -91,10 +91,6 @@ contains_more xs y x (k, less, is) = (suc k, omega (arith, less), is)
 -- ---- lines
 
 module _ (t : Tuning) (ahead : ℕ) (log : List (Option Group)) (lost : List Burst) (words : List ℕ) (slot : ℕ) where
-  -- before the first kind
-  pub no_lines : (lines : List ℕ) → lines ≡ [] → AreSomeMixLines 0 t ahead log lost words slot lines
-  no_lines lines none = grind (arith)
-
   -- a slot without a mix
   pub no_mixes : ((thing : Thing) → IsMix t ahead log lost slot thing → ⊥) → AreMixLines t ahead log lost words slot []
   no_mixes not = record {
