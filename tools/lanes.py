@@ -20,6 +20,8 @@ from crates import below, compile_words, folder, is_stale, rlib, with_below
 KEPT = "out/incremental"
 # kB of memory for a job of the compiler
 MEMORY = 2_500_000
+# a crate has at most this many jobs: it keeps them to its end, and a crate that is ready later would wait for one
+MOST_JOBS = 2
 
 
 @contextlib.contextmanager
@@ -62,11 +64,11 @@ class Call(NamedTuple):
 
 
 def next_crates(left, running, uses, most):
-    """Returns the first crates left that wait for none left or running, as far as jobs are free. Each has its share of these.
-    If they do not divide, the first crates get one more."""
+    """Returns the first crates left that wait for none left or running, as far as jobs are free. Each has its share of these,
+    up to two. If they do not divide, the first crates get one more."""
     free = max(0, most - sum(it.jobs for it in running.values()))
     ready = [it for it in left if not {*below(it, uses)} & {*left, *running}][:free]
-    return [(it, free // len(ready) + (place < free % len(ready))) for place, it in enumerate(ready)]
+    return [(it, min(MOST_JOBS, free // len(ready) + (place < free % len(ready)))) for place, it in enumerate(ready)]
 
 
 def call(name, uses, jobs, words, group):
