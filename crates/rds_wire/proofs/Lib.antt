@@ -7,3 +7,10 @@ pub mod Filling
 pub mod Runs
 pub mod Twice
 pub mod WorkedRows
+pub mod ByRows
+pub mod MissesNothing
+pub mod Recorded
+pub mod Reached
+pub mod HeadlineRows
+pub mod Headline
+pub mod NothingNew

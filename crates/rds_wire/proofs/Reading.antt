@@ -79,7 +79,7 @@ same_prefix s n x y small less e =
 same_part : (p q : Part) (x y : List ℕ) → part_name p ++ x ≡ part_name q ++ y → (p ≡ q) × (x ≡ y)
 same_part p q x y e = grind arith
 
-same_line : (s n : ℕ) (p q : Part) (x y : List ℕ) → s < 2 ^ 64 → n < 2 ^ 64 → line_in s p x ≡ line_in n q y
+pub same_line : (s n : ℕ) (p q : Part) (x y : List ℕ) → s < 2 ^ 64 → n < 2 ^ 64 → line_in s p x ≡ line_in n q y
     → (s ≡ n) × (p ≡ q) × (x ≡ y)
 same_line s n p q x y small less e = grind (arith, same_prefix, same_part)
 
@@ -215,7 +215,7 @@ contains_from_in line (l ∷ rest) (inl is) = (0, omega arith, is)
 contains_from_in line (l ∷ rest) (inr is) =
     (let it = contains_from_in line rest is in (suc it.0, omega (arith, it.1), it.2))
 
-in_body : (line : Line) (b : Bool) (body : Line) (rest : List Line) → In line (body_unless b body rest)
+pub in_body : (line : Line) (b : Bool) (body : Line) (rest : List Line) → In line (body_unless b body rest)
     → (body ≡ line) ⊎ In line rest
 in_body line b body rest is = grind arith
 
@@ -224,9 +224,9 @@ after_body : (line : Line) (b : Bool) (body : Line) (rest : List Line) → In li
 after_body line b body rest is = grind arith
 
 -- a line of a slot is that of a part of its display
-record IsOf (n s : ℕ) (p : Part) (content : List ℕ) (now : Display) : Type 0 where
-  slot : s ≡ n
-  is : content ≡ part_content p now.whys now.view
+pub record IsOf (n s : ℕ) (p : Part) (content : List ℕ) (now : Display) : Type 0 where
+  pub slot : s ≡ n
+  pub is : content ≡ part_content p now.whys now.view
 
 one_of : (n s : ℕ) (before : ShownView) (now : Display) (p q : Part) (content : List ℕ) (rest : List Line) → s < 2 ^ 64
     → n < 2 ^ 64 → In (line_in s p content) (with_body n before now q rest)
@@ -236,7 +236,7 @@ one_of n s before now p q content rest small less is = grind (arith, in_body, sa
 or_else : {A B C : Type 0} → A ⊎ B → (B → A ⊎ C) → A ⊎ C
 or_else a next = grind arith
 
-of_slot : (n s : ℕ) (before : ShownView) (now : Display) (p : Part) (content : List ℕ) (rest : List Line) → s < 2 ^ 64
+pub of_slot : (n s : ℕ) (before : ShownView) (now : Display) (p : Part) (content : List ℕ) (rest : List Line) → s < 2 ^ 64
     → n < 2 ^ 64 → In (line_in s p content) (with_slot n before now rest)
     → IsOf n s p content now ⊎ In (line_in s p content) rest
 of_slot n s before now p content rest small less is =
@@ -276,7 +276,7 @@ in_slot Tag2 n before now rest changed = search (arith, after_body, changed_body
 
 -- ---- a part that did not change
 
-part_stays : (p : Part) (whys : Option Whys) (v w : ShownView) → is_same_part p v w ≡ true
+pub part_stays : (p : Part) (whys : Option Whys) (v w : ShownView) → is_same_part p v w ≡ true
     → part_content p whys v ≡ part_content p whys w
 part_stays Text whys v w e = ap (text_content (why_text whys)) (one_text v.text w.text e)
 part_stays Name whys v w e = ap (text_content (why_name whys)) (one_text v.name w.name e)

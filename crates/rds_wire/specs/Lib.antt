@@ -3,6 +3,9 @@ pub mod Received
 pub mod Printed
 pub mod Safe
 pub mod Wire
+-- The headline in one file.
+pub mod Headline
+pub mod NothingNew
 -- The same for what `slots` writes, for receivers that show only what they heard twice, and for runs of the program.
 pub mod FromTimes
 pub mod Twice

@@ -2,7 +2,9 @@
 ghost use Rattle.rds_wire.specs.FromTimes.{WhatSlotsWritesIsReceived};
 ghost use Rattle.rds_wire.specs.Groups.{GroupsByOwnClockAreMessagesByIt, LateGroupsAreLateMessages};
 ghost use Rattle.rds_wire.specs.Groups.{OtherGroupsAreNothing, WhatIsSentIsHeard};
+ghost use Rattle.rds_wire.specs.Headline.{Headline};
 ghost use Rattle.rds_wire.specs.Mixes.{AMixIsShown};
+ghost use Rattle.rds_wire.specs.NothingNew.{NothingNew};
 ghost use Rattle.rds_wire.specs.Program.{WhatIsAskedForRan, WhatTheProgramDecodesIsPrinted};
 ghost use Rattle.rds_wire.specs.Program.{WhatTheProgramEncodesIsSafe, WhatTheProgramPassesIsSafe};
 ghost use Rattle.rds_wire.specs.Received.{WhoLosesSlotsReceives};
@@ -16,8 +18,29 @@ use rds_audit::{what_passes_as_a_recording_is_safe, what_passes_is_safe};
 use rds_encoder::sent_is_of_what_is_on_air;
 use rds_io::TellingRead;
 use rds_log::filled_texts_are_logs;
-use rds_safety::{one_source, own_clocks, safe_by_padded_plans, safe_by_plans, safe_if_confirmed};
+use rds_safety::{
+    one_source, own_clocks, plan_laws, safe_by_padded_plans, safe_by_plans, safe_if_confirmed,
+};
 use rds_world::{a_station_is_safe, the_encoder_is_lawful};
+
+/// States the headline: whatever two receivers of the log of a script display in a slot was on air within the last
+/// M + K slots, and it is one text or two that follow each other; names likewise.
+pub fn the_headline()
+    ensures { Headline }
+{
+    what_is_encoded_is_safe_on_the_wire();
+}
+
+/// States the headline of audits: of a log to which `audit` said yes, no receiver displays a text or a name that a
+/// receiver without a loss, with a dwell of M + K slots, did not display within the last M + K slots.
+pub fn nothing_new_is_displayed()
+    ensures { NothingNew }
+{
+    plan_laws();
+    safe_by_padded_plans();
+    what_passes_is_safe();
+    what_passes_as_a_recording_is_safe();
+}
 
 /// States the law of scripts: what `decode` prints for the log that `encode` wrote, with slots lost and groups at most
 /// K slots late, was on air by the script within the last M + K slots.

@@ -1,0 +1,307 @@
+-- What reaches a receiver of a log, line by line, is received slot by slot.
+use Rattle.std.proofs.Common.{◌≡◌, ◌≢◌, ◌⊎◌, ◌<◌, ◌≤◌, ◌+◌, ◌==◌, ◌++◌, ◌∷◌, [], ◌∙◌, ℕ, zero, suc, Bool, true}
+use Rattle.std.proofs.Common.{false, cond, List, Option, None, Some, ap, arith, codes, length, refl, inl, inr, subst}
+use Rattle.std.proofs.Common.{append-nil, sym, All, map, get_or, slice_get}
+use Rattle.std.proofs.lemmas.Bool.Decides.{nat_tests}
+use Rattle.std.proofs.lemmas.Grind.{reverse_onto}
+use Rattle.std.proofs.lemmas.List.{length-reverse}
+use Rattle.std.proofs.lemmas.List.Elements.{filter-append, All-head, All-tail, All-nil}
+use Rattle.std.proofs.lemmas.List.Splits.{slice_split_none, length-slice_split}
+use Rattle.std.proofs.lemmas.Option.{slice_get_within}
+use Rattle.std.specs.Char.{digit_value}
+use Rattle.std.specs.List.{AllZip, onto_first}
+use Rattle.std.specs.Prelude.{MatchOption, filter, reverse}
+use Rattle.rds_block.specs.declared.group.Group.{Group}
+use Rattle.rds_fields.specs.TagGroup.{exchanged_in}
+use Rattle.rds_lines.specs.LineSays.{LineSays}
+use Rattle.rds_lines.specs.LogLines.{AreLines, IsLine, Line, text_of}
+use Rattle.rds_lines.specs.LogSlots.{AreSlots, IsLogOf}
+use Rattle.rds_lines.specs.OneLog.{same_said}
+use Rattle.rds_lines.specs.declared.log_line.LogLine.TheVariants.{Skip, Slot}
+use Rattle.rds_lines.proofs.Cutting.{content_near}
+use Rattle.rds_log.specs.declared.audit_log.Auditing.{Auditing}
+use Rattle.rds_safety.specs.Late.{HasEntry, IsHeardLate, IsOfItsOrigin}
+use Rattle.rds_safety.proofs.Entries.{before_end}
+use Rattle.rds_wire.specs.Headline.{Reaches, is_slot, lines, slots}
+use Rattle.rds_wire.specs.Received.{IsReceived, first_entries, own_group}
+use Rattle.rds_wire.proofs.Logs.{dashes}
+use Rattle.rds_wire.proofs.Receiving.{entry_in_first, entry_left, zip_long}
+use Rattle.rds_wire.proofs.Twice.{entry_of_map}
+use Rattle.rds_wire.proofs.Wired.{entry_at}
+
+-- ---- the lines of a text
+
+first_joined : (x : ℕ) (parts others : List (List ℕ)) → 0 < length parts
+    → onto_first x (parts ++ others) ≡ onto_first x parts ++ others
+first_joined x [] others some = absurd (omega (arith, some))
+first_joined x (part ∷ parts) others some = refl
+
+lines_joined : (xs ys : List ℕ) → lines (xs ++ 10 ∷ ys) ≡ lines xs ++ lines ys
+lines_joined [] ys = refl
+lines_joined (x ∷ xs) ys = by (lines_joined xs ys) (x == 10)
+  where
+    by : lines (xs ++ 10 ∷ ys) ≡ lines xs ++ lines ys → (b : Bool)
+        → cond b ([] ∷ lines (xs ++ 10 ∷ ys)) (onto_first x (lines (xs ++ 10 ∷ ys)))
+        ≡ cond b ([] ∷ lines xs) (onto_first x (lines xs)) ++ lines ys
+    by rest true = ap (λ l. [] ∷ l) rest
+    by rest false = ap (onto_first x) rest
+        ∙ first_joined x (lines xs) (lines ys) (omega (arith, length-slice_split (λ b. b == 10) xs))
+
+no_feed : (line : Line) → IsLine line → All (λ b. (b == 10) ≡ false) line
+no_feed [] is = All-nil (λ b. (b == 10) ≡ false)
+no_feed (b ∷ rest) is = grind (arith, nat_tests, no_feed rest)
+
+-- the lines are the closed ones and the begun one
+pub lines_are : (closed : List Line) (begun : Line) → All IsLine closed → IsLine begun
+    → lines (text_of closed begun) ≡ reverse (begun ∷ closed)
+lines_are [] begun all is = slice_split_none (λ b. b == 10) begun (no_feed begun is)
+lines_are (line ∷ before) begun all is =
+    lines_joined (text_of before line) begun
+    ∙ ap (λ l. l ++ lines begun)
+    (lines_are before line (All-tail IsLine line before all) (All-head IsLine line before all))
+    ∙ ap (λ l. reverse (line ∷ before) ++ l) (slice_split_none (λ b. b == 10) begun (no_feed begun is))
+    ∙ sym (reverse_onto (line ∷ before) begun [])
+
+filter_reverse : {X : Type 0} (p : X → Bool) (xs : List X) → filter p (reverse xs) ≡ reverse (filter p xs)
+filter_reverse p [] = refl
+filter_reverse p (x ∷ xs) =
+    ap (filter p) (reverse_onto xs x []) ∙ filter-append p (reverse xs) (x ∷ [])
+    ∙ ap (λ l. l ++ filter p (x ∷ [])) (filter_reverse p xs) ∙ by (p x)
+  where
+    by : (b : Bool) → reverse (filter p xs) ++ cond b (x ∷ []) [] ≡ reverse (cond b (x ∷ filter p xs) (filter p xs))
+    by true = sym (reverse_onto (filter p xs) x [])
+    by false = append-nil (reverse (filter p xs))
+
+-- the lines of the slots
+slots_are : (text : List ℕ) (cut : List Line) → AreLines text cut → slots text ≡ reverse (filter is_slot cut)
+slots_are text cut (closed, begun, is, a, p, ends) =
+    ap slots is ∙ ap (filter is_slot) (lines_are closed begun a p) ∙ filter_reverse is_slot (begun ∷ closed)
+    ∙ ap reverse (by ends)
+  where
+    by : ((begun ≡ []) × (cut ≡ closed)) ⊎ ((begun ≢ []) × (cut ≡ begun ∷ closed))
+        → filter is_slot (begun ∷ closed) ≡ filter is_slot cut
+    by (inl (empty, same)) = rw (empty, same) refl
+    by (inr (some, same)) = ap (filter is_slot) (sym same)
+
+-- ---- an entry from the oldest on
+
+get_here : {X : Type 0} (xs : List X) (x : X) → slice_get (xs ++ x ∷ []) (length xs) ≡ Some x
+get_here [] x = refl
+get_here (y ∷ xs) x = get_here xs x
+
+get_before : {X : Type 0} (xs : List X) (x : X) (t : ℕ) → t < length xs → slice_get (xs ++ x ∷ []) t ≡ slice_get xs t
+get_before [] x t below = absurd (omega (arith, below))
+get_before (y ∷ xs) x zero below = refl
+get_before (y ∷ xs) x (suc t) below = get_before xs x t (omega (arith, below))
+
+get_of_entry : {X : Type 0} (xs : List X) (t : ℕ) (x : X) → HasEntry 0 xs t x → slice_get (reverse xs) t ≡ Some x
+get_of_entry [] t x has = absurd has
+get_of_entry (y ∷ xs) t x (inl (at, is)) =
+    ap (λ l. slice_get l t) (reverse_onto xs y [])
+    ∙ ap (slice_get (reverse xs ++ y ∷ [])) (omega (arith, at, length-reverse xs)) ∙ get_here (reverse xs) y
+    ∙ ap Some (sym is)
+get_of_entry (y ∷ xs) t x (inr there) =
+    ap (λ l. slice_get l t) (reverse_onto xs y [])
+    ∙ get_before (reverse xs) y t (omega (arith, before_end 0 xs t x there, length-reverse xs))
+    ∙ get_of_entry xs t x there
+
+entry_of_get : {X : Type 0} (xs : List X) (t : ℕ) (x : X) → slice_get (reverse xs) t ≡ Some x → HasEntry 0 xs t x
+entry_of_get xs t x is =
+    let below = slice_get_within (reverse xs) t x is in
+    let it = entry_at xs t (omega (arith, below, length-reverse xs)) in
+    let same : it.0 ≡ x = (let got = get_of_entry xs t it.0 it.1 in cc) in
+    subst (HasEntry 0 xs t) same it.1
+
+-- beside each entry of the first list is one of the second
+entry_right : {A B : Type 0} (R : A → B → Type 0) (first : ℕ) (xs : List A) (ys : List B) (t : ℕ) (x : A)
+    → AllZip R xs ys → HasEntry first xs t x → (y : B) × HasEntry first ys t y × R x y
+entry_right R first [] [] t x all at = absurd at
+entry_right R first (a ∷ xs) (b ∷ ys) t x all here = grind (arith, entry_right R first xs ys t x all.1, zip_long)
+entry_right R first _ _ t x all at = absurd all
+
+-- ---- the lines of the slots say the slots
+
+-- the line says this slot
+abbrev Says : ℕ → Line → Option Group → Type 0
+Says n line slot = (said : Option Group) × LineSays line (Slot said) × (slot ≡ exchanged_in n said)
+
+first_byte : (line : Line) (said : Option Group) → LineSays line (Slot said)
+    → (digit_value (get_or line 0 0) < 16) ⊎ (get_or line 0 0 ≡ 45)
+first_byte line said says = grind arith
+
+differs : (b c : ℕ) → (digit_value b < 16) ⊎ (b ≡ 45) → (digit_value c < 16 → ⊥) → c ≢ 45 → (b == c) ≡ false
+differs b c (inl digit) none other =
+    let no : b ≢ c = λ e. none (subst (λ x. digit_value x < 16) e digit) in grind (arith, nat_tests)
+differs b c (inr dash) none other = grind (arith, nat_tests)
+
+-- the line of a slot is one
+slot_line : (line : Line) (said : Option Group) → LineSays line (Slot said) → is_slot line ≡ true
+slot_line [] said says = absurd (omega (arith, says.0.at_least))
+slot_line (b ∷ rest) said says = grind (arith, nat_tests, first_byte, differs)
+
+-- a line that is skipped is none
+skipped_line : (line : Line) → LineSays line Skip → is_slot line ≡ false
+skipped_line [] says = refl
+skipped_line (b ∷ []) (inl empty) = grind (arith, nat_tests)
+skipped_line (b ∷ c ∷ rest) (inl empty) = absurd (omega (arith, empty, content_near (b ∷ c ∷ rest)))
+skipped_line (b ∷ rest) (inr mark) = grind (arith, nat_tests)
+
+-- the lines of the slots say the slots
+said_by : (n : ℕ) (cut : List Line) (got : List (Option Group)) → AreSlots n cut got
+    → AllZip (Says n) (filter is_slot cut) got
+said_by n [] got none = subst (AllZip (Says n) []) (sym none) tt
+said_by n (line ∷ before) got (inl (says, rest)) =
+    rw (skipped_line line says) (said_by n before got rest)
+said_by n (line ∷ before) got (inr (said, older, says, is, rest)) =
+    rw (slot_line line said says, is) ((said, says, refl), said_by n before older rest)
+
+same_says : (n : ℕ) (line : Line) (one other : Option Group) → Says n line one → Says n line other → one ≡ other
+same_says n line one other (said, says, is) (also, too, equal) =
+    let same = same_said line (Slot said) (Slot also) says too in
+    grind arith
+
+-- ---- the origins
+
+-- the origin of each entry; nothing has none
+abbrev pub origins_of : {X : Type 0} → (ℕ → Option ℕ) → List (Option X) → List (Option ℕ)
+origins_of origin [] = []
+origins_of origin (None ∷ before) = None ∷ origins_of origin before
+origins_of origin (Some x ∷ before) = origin (length before) ∷ origins_of origin before
+
+origins_long : {X : Type 0} (origin : ℕ → Option ℕ) (got : List (Option X))
+    → length (origins_of origin got) ≡ length got
+origins_long origin [] = refl
+origins_long origin (None ∷ before) = ap suc (origins_long origin before)
+origins_long origin (Some x ∷ before) = ap suc (origins_long origin before)
+
+-- an entry and its origin
+beside : {X : Type 0} (origin : ℕ → Option ℕ) (got : List (Option X)) (t : ℕ) (from : Option ℕ) (entry : Option X)
+    → HasEntry 0 (origins_of origin got) t from → HasEntry 0 got t entry
+    → ((from ≡ None) × (entry ≡ None)) ⊎ ((from ≡ origin t) × ((x : X) × (entry ≡ Some x)))
+beside origin [] t from entry p q = absurd p
+beside origin (None ∷ before) t from entry p q =
+    grind (arith, beside origin before t from entry, origins_long, before_end)
+beside origin (Some x ∷ before) t from entry p q =
+    grind (arith, beside origin before t from entry, origins_long, before_end)
+
+-- an origin is that of the slot, which has an entry
+of_slot : {X : Type 0} (origin : ℕ → Option ℕ) (got : List (Option X)) (t s : ℕ)
+    → HasEntry 0 (origins_of origin got) t (Some s) → (origin t ≡ Some s) × (t < length got)
+of_slot origin [] t s from = absurd from
+of_slot origin (None ∷ before) t s from = grind (arith, of_slot origin before t s, origins_long)
+of_slot origin (Some x ∷ before) t s from = grind (arith, of_slot origin before t s, origins_long)
+
+own_or_none : (pi : ℕ) (slot : Option Group) → (own_group pi slot ≡ None) ⊎ (own_group pi slot ≡ slot)
+own_or_none pi slot = grind arith
+
+module _ (a : Auditing) (log received : List ℕ) (sent got : List (Option Group)) (log_cut cut : List Line)
+    (log_is : AreLines log log_cut) (is : AreLines received cut) (log_says : AreSlots a.rtplus log_cut sent)
+    (says : AreSlots a.rtplus cut got) (reaches : Reaches a.late log received) where
+  -- the line of a slot that the receiver got
+  line_of : (t : ℕ) (slot : Option Group) → HasEntry 0 got t slot
+      → (line : Line) × (slice_get (slots received) t ≡ Some line) × Says a.rtplus line slot
+  line_of t slot has =
+      let it = entry_left (Says a.rtplus) 0 (filter is_slot cut) got t slot (said_by a.rtplus cut got says) has in
+      (it.0, ap (λ l. slice_get l t) (slots_are received cut is) ∙ get_of_entry (filter is_slot cut) t it.0 it.1, it.2)
+
+  -- the slot of a line of the log
+  slot_of_line : (s : ℕ) (line : Line) → slice_get (slots log) s ≡ Some line
+      → (slot : Option Group) × HasEntry 0 sent s slot × Says a.rtplus line slot
+  slot_of_line s line at =
+      entry_right (Says a.rtplus) 0 (filter is_slot log_cut) sent s line (said_by a.rtplus log_cut sent log_says)
+      (entry_of_get (filter is_slot log_cut) s line (ap (λ l. slice_get l s) (sym (slots_are log log_cut log_is)) ∙ at))
+
+  -- a group that was got was sent in its origin
+  was_sent : (t : ℕ) (slot : Option Group) (g : Group) → HasEntry 0 got t slot → slot ≡ Some g
+      → (s : ℕ) × (reaches.origin t ≡ Some s) × HasEntry 0 sent s (Some g)
+  was_sent t slot g has some =
+      let line = line_of t slot has in
+      by (reaches.origin t) refl line.0 line.2 (reaches.each t line.0 line.1)
+    where
+      by : (from : Option ℕ) → reaches.origin t ≡ from → (line : Line) → Says a.rtplus line slot
+          → MatchOption from (line ≡ codes "---- ---- ---- ----")
+          (λ s. (slice_get (slots log) s ≡ Some line) × (s ≤ t) × (t ≤ s + a.late))
+          → (s : ℕ) × (reaches.origin t ≡ Some s) × HasEntry 0 sent s (Some g)
+      by None from line said lost =
+          let none = same_says a.rtplus line slot None said (None, subst (λ l. LineSays l (Slot None)) (sym lost) dashes, refl) in
+          absurd (cc)
+      by (Some s) from line said came =
+          let it = slot_of_line s line came.0 in
+          let same = same_says a.rtplus line slot it.0 said it.2 in
+          (s, from, subst (HasEntry 0 sent s) (sym same ∙ some) it.1)
+
+  -- the entries up to a slot, with their origins
+  abbrev heard : ℕ → List (Option Group)
+  heard n = map (own_group a.pi) (first_entries n got)
+
+  -- an entry was got
+  got_in : (n t : ℕ) (entry : Option Group) → HasEntry 0 (heard n) t entry
+      → (slot : Option Group) × HasEntry 0 got t slot × (entry ≡ own_group a.pi slot)
+  got_in n t entry has =
+      let it = entry_of_map (own_group a.pi) (first_entries n got) t entry has in
+      (it.0, (entry_in_first n got t it.0 it.1).0, it.2)
+
+  of_origin : (n t : ℕ) (from : Option ℕ) (entry : Option Group)
+      → HasEntry 0 (origins_of reaches.origin (heard n)) t from → HasEntry 0 (heard n) t entry
+      → IsOfItsOrigin sent from entry
+  of_origin n t from entry p q = by (beside reaches.origin (heard n) t from entry p q)
+    where
+      by : ((from ≡ None) × (entry ≡ None)) ⊎ ((from ≡ reaches.origin t) × ((x : Group) × (entry ≡ Some x)))
+          → IsOfItsOrigin sent from entry
+      by (inl (lost, nothing)) = subst (λ o. IsOfItsOrigin sent o entry) (sym lost) nothing
+      by (inr (origin, g)) =
+          let some = g.1 in
+          let it = got_in n t entry q in
+          let whole : it.0 ≡ Some g.0 = (let own = own_or_none a.pi it.0 in let e = it.2 in grind arith) in
+          let was = was_sent t it.0 g.0 it.1 whole in
+          subst (λ o. IsOfItsOrigin sent o entry) (sym (origin ∙ was.1))
+          (subst (HasEntry 0 sent was.0) (sym some) was.2)
+
+  in_time : (n t s : ℕ) → HasEntry 0 (origins_of reaches.origin (heard n)) t (Some s) → (s ≤ t) × (t ≤ s + a.late)
+  in_time n t s from =
+      let of = of_slot reaches.origin (heard n) t s from in
+      let entry = entry_at (heard n) t of.1 in
+      let it = got_in n t entry.0 entry.1 in
+      let line = line_of t it.0 it.1 in
+      let came = subst (λ o. MatchOption o (line.0 ≡ codes "---- ---- ---- ----")
+      (λ s. (slice_get (slots log) s ≡ Some line.0) × (s ≤ t) × (t ≤ s + a.late))) of.0 (reaches.each t line.0 line.1) in
+      (came.1, came.2)
+
+  pub heard_late : (n : ℕ) → IsHeardLate a.late sent record {
+    first = 0;
+    heard = heard n;
+    origins = origins_of reaches.origin (heard n);
+  }
+  heard_late n = record {
+    order = record {
+      beside = origins_long reaches.origin (heard n);
+      each = of_origin n;
+      rising = λ t u r s from to before.
+          reaches.rising t u r s (of_slot reaches.origin (heard n) t r from).0
+          (of_slot reaches.origin (heard n) u s to).0 before;
+    };
+    past = λ t s from. (in_time n t s from).0;
+    late = λ t s from. (in_time n t s from).1;
+  }
+
+-- a log has a slot for each line of a slot
+pub slots_long : (n : ℕ) (text : List ℕ) (cut : List Line) (got : List (Option Group)) → AreLines text cut
+    → AreSlots n cut got → length (slots text) ≡ length got
+slots_long n text cut got is says =
+    ap length (slots_are text cut is) ∙ length-reverse (filter is_slot cut)
+    ∙ zip_long (Says n) (filter is_slot cut) got (said_by n cut got says)
+
+-- what reaches a receiver is received
+pub reaches_is_received : (a : Auditing) (log received : List ℕ) (sent got : List (Option Group)) (cut : List Line)
+    → IsLogOf a.rtplus log sent → Reaches a.late log received → AreLines received cut → AreSlots a.rtplus cut got
+    → (t : ℕ) → t < length (slots received) → IsReceived a log got t t
+reaches_is_received a log received sent got cut is reaches are says t below =
+    let long = slots_long a.rtplus received cut got are says in
+    record {
+      sent = sent;
+      log_has = is;
+      reached = omega (arith, below, long);
+      few = omega (arith, reaches.few, long);
+      origins = origins_of reaches.origin (map (own_group a.pi) (first_entries (t + 1) got));
+      came = inl (heard_late a log received sent got is.lines cut is.are are is.say says reaches (t + 1), refl);
+    }
