@@ -4,3 +4,4 @@ pub mod WorkedRows
 pub mod Shows
 pub mod ConfirmingSteps
 pub mod Ages
+pub mod Counting

@@ -11,6 +11,7 @@ use Rattle.rds_receiver.specs.Receipts.{Segment, Tuning, name_fragment, text_fra
 use Rattle.rds_receiver.specs.Run.{begins_in, cells_of, run_at}
 use Rattle.rds_receiver.specs.Tags.{is_known, item_of, pair_held, tag_of}
 use Rattle.rds_receiver.specs.Confirmed.{confirmed}
+use Rattle.rds_receiver.specs.Kept.{Moment, kept}
 use Rattle.rds_receiver.specs.declared.why.WhyNone.TheVariants.{Dropped, Incomplete}
 
 abbrev Heard : Type 0
@@ -193,3 +194,29 @@ dropped_5 = refl
 -- with a window of 3 slots a segment counts when it comes again
 not_counted_1 : whys_of (record tuned { window = Some 3 }) begun ≡ record { text = Dropped; name = Dropped }
 not_counted_1 = refl
+
+-- a display that keeps for two slots: the text is shown in slot 0, and still in slots 1 and 2, but not in slot 3
+abbrev shows_hi : Moment (List ℕ)
+shows_hi = record { shown = Some hi; flag = Some false }
+
+abbrev nothing_held : Moment (List ℕ)
+nothing_held = record { shown = None; flag = None }
+
+abbrev held_with : Bool → Moment (List ℕ)
+held_with flag = record { shown = None; flag = Some flag }
+
+kept_in_2 : kept 2 (nothing_held ∷ nothing_held ∷ shows_hi ∷ []) ≡ Some hi
+kept_in_2 = refl
+
+over_in_3 : kept 2 (nothing_held ∷ nothing_held ∷ nothing_held ∷ shows_hi ∷ []) ≡ None
+over_in_3 = refl
+
+-- segments with its flag do not end it; segments with the other flag do, also if its flag comes again
+kept_with_its_flag : kept 8 (held_with false ∷ nothing_held ∷ shows_hi ∷ []) ≡ Some hi
+kept_with_its_flag = refl
+
+ended_by_the_other_flag : kept 8 (held_with false ∷ held_with true ∷ shows_hi ∷ []) ≡ None
+ended_by_the_other_flag = refl
+
+ended_after_a_loss : kept 8 (held_with true ∷ nothing_held ∷ shows_hi ∷ []) ≡ None
+ended_after_a_loss = refl

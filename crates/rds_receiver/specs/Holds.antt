@@ -57,9 +57,11 @@ HearsMore old new message =
 abbrev pub MakeAlike : (Cells → List ℕ → Type 0) → Cells → Cells → Type 0
 MakeAlike IsWhole cells after = (shown : Option (List ℕ)) → IsShown IsWhole cells shown ↔ IsShown IsWhole after shown
 
--- both states show the same: their cells make the same text and the same name whole, and they hold the same pair, or no
--- text is whole
+-- both states show the same: their cells make the same text and the same name whole, with the same flags, and they hold
+-- the same pair; or none is whole
 pub record ShowsAlike (r after : DisplayState) : Type 0 where
   pub text : MakeAlike IsWholeText r.text.cells after.text.cells
   pub name : MakeAlike IsWholeName r.name.cells after.name.cells
+  pub text_flag : (after.text.flag ≡ r.text.flag) ⊎ IsShown IsWholeText r.text.cells None
+  pub name_flag : (after.name.flag ≡ r.name.flag) ⊎ IsShown IsWholeName r.name.cells None
   pub pair : (after.pair ≡ r.pair) ⊎ IsShown IsWholeText r.text.cells None

@@ -6,6 +6,7 @@ pub mod Tags
 pub mod Shown
 pub mod Confirmed
 pub mod NotShown
+pub mod Kept
 -- The state of the code: what it follows from, and its forms in memory. Callers do not need it.
 pub mod Holds
 pub mod State
@@ -14,6 +15,8 @@ pub mod ReceiverAt
 pub mod Stored
 pub mod Older
 pub mod Borrowed
+pub mod Counts
 -- Lemmas that crates above use.
 pub mod OneView
+pub mod KeptLemmas
 pub mod ConfirmedLemmas

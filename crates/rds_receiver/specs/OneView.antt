@@ -38,12 +38,12 @@ pub same_text_shown : (m first : ℕ) (heard : List (Option Message)) (shown oth
 same_text_shown m first heard shown other p q =
     same_shown _ one_text (cells_of (run_at text_fragment m first heard)) shown other p q
 
-same_name_shown : (m first : ℕ) (heard : List (Option Message)) (shown other : Option (List ℕ))
+pub same_name_shown : (m first : ℕ) (heard : List (Option Message)) (shown other : Option (List ℕ))
     → IsNameShown m first heard shown → IsNameShown m first heard other → shown ≡ other
 same_name_shown m first heard shown other p q =
     same_shown _ one_name (cells_of (run_at name_fragment m first heard)) shown other p q
 
-same_view_of : (m first : ℕ) (heard : List (Option Message)) (v w : ShownView) → ShowsView m first heard v
+pub same_view_of : (m first : ℕ) (heard : List (Option Message)) (v w : ShownView) → ShowsView m first heard v
     → ShowsView m first heard w → v ≡ w
 same_view_of m first heard v w p q =
     let text : v.text ≡ w.text = same_text_shown m first heard v.text w.text p.text q.text in

@@ -5,6 +5,7 @@ use Rattle.rds_fields.specs.declared.message.Message.{Message}
 use Rattle.rds_receiver.specs.Receipts.{Tuning, heard_of}
 use Rattle.rds_receiver.specs.Confirming.{HoldsBy}
 use Rattle.rds_receiver.specs.Holds.{newest_slot}
+use Rattle.rds_receiver.specs.Kept.{GoesOn, IsShowing, Showing}
 use Rattle.rds_receiver.specs.Shown.{IsView, ShownView}
 use Rattle.rds_receiver.specs.Stored.{IsStoredReceiver, receiver_stored}
 use Rattle.rds_receiver.specs.Confirmed.{counted}
@@ -29,6 +30,14 @@ TakesSlot r after group = WhereReceiverStands r (λ t input. ReceiverAt t after 
 abbrev pub KeepsView : Receiver → Option Group → Type 0
 KeepsView r group =
     (view : ShownView) → WhereReceiverStands r (λ t input. IsView t input view → IsView t (group ∷ input) view)
+
+-- one more slot with this group, or with none, changes nothing that is shown: wherever the receiver stands, the end of
+-- the slot before goes on
+abbrev pub KeepsShowing : Receiver → Option Group → Type 0
+KeepsShowing r group =
+    WhereReceiverStands r (λ t input. (s now : Showing)
+    → IsShowing t.dwell t.first (counted t (heard_of t.programme input)) s
+    → IsShowing t.dwell t.first (counted t (heard_of t.programme (group ∷ input))) now → GoesOn s now)
 
 -- this holds of the dwell, the first slot and what counts of what was heard, for each tuning and input that the
 -- receiver stands at

@@ -4,7 +4,9 @@ ghost use Rattle.rds_fields.specs.declared.message.Message.{Message};
 ghost use Rattle.rds_fields.specs.Stored.{IsStoredPair, is_set, pair_stored};
 ghost use Rattle.rds_receiver.specs.Older.{IsOlder};
 ghost use Rattle.rds_receiver.specs.Holds.{HearsMore, HoldsAt, ShowsAlike, newest_slot};
-ghost use Rattle.rds_receiver.specs.Receipts.{text_of};
+ghost use Rattle.rds_receiver.specs.Kept.{flag_of};
+ghost use Rattle.rds_receiver.specs.Receipts.{name_fragment, segments, text_fragment, text_of};
+ghost use Rattle.rds_receiver.specs.Run.{run};
 ghost use Rattle.rds_receiver.specs.Tags.{or_before, says_of_rtplus, unless_contrary};
 ghost use Rattle.rds_receiver.specs.Stored.{IsStoredDisplay, display_stored};
 
@@ -93,6 +95,24 @@ impl StoredDisplay {
         }
         self.pair = StoredPair::none();
         true
+    }
+
+    /// Returns the flag of the segments of a text that are held. `None` if none is held.
+    pub(crate) fn text_flag(&self) -> Option<bool>
+        ensures { IsStoredDisplay self.now → (m t first : ℕ) (heard : List (Option Message))
+            → HoldsAt m t first (display_stored self.now) heard
+            → result ≡ flag_of (run m t (segments text_fragment first heard)) }
+    {
+        self.text.held_flag()
+    }
+
+    /// Does the same for the segments of a name.
+    pub(crate) fn name_flag(&self) -> Option<bool>
+        ensures { IsStoredDisplay self.now → (m t first : ℕ) (heard : List (Option Message))
+            → HoldsAt m t first (display_stored self.now) heard
+            → result ≡ flag_of (run m t (segments name_fragment first heard)) }
+    {
+        self.name.held_flag()
     }
 
     /// Returns the slots since the newest segment of a text came, or the dwell if none is held.

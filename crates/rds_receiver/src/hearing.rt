@@ -4,7 +4,7 @@ ghost use Rattle.rds_block.specs.declared.group.Group.{Group};
 ghost use Rattle.rds_fields.specs.declared.message.Message.{Message};
 ghost use Rattle.rds_receiver.specs.Confirming.{ConfirmsIf, HearsSlot, HoldsLastsIn};
 ghost use Rattle.rds_receiver.specs.Holds.{HoldsAt, ShowsAlike, newest_slot};
-ghost use Rattle.rds_receiver.specs.ReceiverAt.{KeepsView, TakesSlot};
+ghost use Rattle.rds_receiver.specs.ReceiverAt.{KeepsShowing, KeepsView, TakesSlot};
 ghost use Rattle.rds_receiver.specs.Stored.{IsStoredReceiver, display_stored, receiver_stored};
 ghost use Rattle.rds_receiver.specs.Confirmed.{counted_in};
 ghost use Rattle.rds_receiver.specs.Receipts.{name_of, text_of};
@@ -21,6 +21,7 @@ impl Receiver {
     pub fn slot(&mut self, group: Option<Group>) -> bool
         ensures stands { TakesSlot self.old self.new group }
         ensures same { IsFalse result → KeepsView self.old group }
+        ensures goes_on { IsFalse result → KeepsShowing self.old group }
     {
         self.slot_blocks(Blocks::of_slot(group))
     }
@@ -30,6 +31,7 @@ impl Receiver {
     pub fn slot_blocks(&mut self, group: Option<Blocks>) -> bool
         ensures stands { TakesSlot self.old self.new group }
         ensures same { IsFalse result → KeepsView self.old group }
+        ensures goes_on { IsFalse result → KeepsShowing self.old group }
     {
         let aged = self.display.grow_older();
         let is_new = self.hear(group);

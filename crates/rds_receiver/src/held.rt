@@ -1,5 +1,5 @@
 //! The held segments of one service, with flag and age.
-ghost use Rattle.std.specs.Prelude.{◌≡◌, ◌≢◌, ◌<◌, ◌↔◌, ◌⊎◌, None, IsFalse, IsTrue, option_copied};
+ghost use Rattle.std.specs.Prelude.{◌≡◌, ◌≢◌, ◌<◌, ◌↔◌, ◌⊎◌, None, Some, IsFalse, IsTrue, option_copied};
 ghost use Rattle.std.specs.FinMap.{empty, insert};
 ghost use Rattle.rds_fields.specs.Stored.{is_set};
 ghost use Rattle.rds_assembly.specs.Held.{held_cells};
@@ -31,6 +31,7 @@ impl StoredSegments {
     pub(crate) fn drop_if_due<S: Service>(&mut self) -> bool
         ensures later { 0 < self.old.later → self.new ≡ self.old }
         ensures due { self.old.later ≡ 0 → self.new ≡ record self.old { mask = 0 } }
+        ensures flag { self.new.flag ≡ self.old.flag }
         ensures same { IsFalse result
             → MakeAlike S.is_whole (held_cells self.old.mask self.old.bytes) (held_cells self.new.mask self.new.bytes) }
     {
@@ -92,6 +93,18 @@ impl StoredSegments {
         self.mask = hold(&mut self.bytes, mask, fragment.address, fragment.bytes);
         self.flag = u8::from(fragment.flag);
         was_whole || self.is_whole::<S>()
+    }
+
+    /// Returns the flag of the segments held. `None` if none is held.
+    pub(crate) fn held_flag(&self) -> Option<bool>
+        ensures held { self.now.mask ≢ 0 → result ≡ Some (is_set self.now.flag) }
+        ensures none { self.now.mask ≡ 0 → result ≡ None }
+    {
+        if self.is_held() {
+            Some(self.flag != 0)
+        } else {
+            None
+        }
     }
 
     /// Returns whether segments are held.

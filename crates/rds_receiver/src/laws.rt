@@ -1,8 +1,9 @@
 //! Laws about all runs and views.
-ghost use Rattle.std.specs.Prelude.{◌≡◌, ◌≤◌, ◌++◌, ℕ, List, Option, length};
+ghost use Rattle.std.specs.Prelude.{◌≡◌, ◌≤◌, ◌++◌, ◌∷◌, ℕ, suc, List, Option, Some, length};
 ghost use Rattle.rds_block.specs.declared.group.Group.{Group};
 ghost use Rattle.rds_receiver.specs.Chained.{IsChained};
 ghost use Rattle.rds_receiver.specs.Receipts.{Segment, Tuning};
+ghost use Rattle.rds_receiver.specs.Kept.{Moment, WasShown, kept};
 ghost use Rattle.rds_receiver.specs.Run.{run};
 ghost use Rattle.rds_receiver.specs.Shown.{IsView, ShownView};
 
@@ -21,4 +22,20 @@ pub fn run_is_the_longest()
 pub fn one_view()
     ensures { (t : Tuning) (input : List (Option Group)) (v w : ShownView)
         → IsView t input v → IsView t input w → v ≡ w }
+{}
+
+/// States what a display shows that keeps a text with its tags, or a name, for N slots: one that its receiver showed at
+/// most N slots ago, and none since. It hides nothing that the receiver shows. For no slot it shows what the receiver
+/// shows, and one that keeps for a slot more shows all of it.
+#[tactic(auto, using(crate::specs::KeptLemmas::kept_was_shown, crate::specs::KeptLemmas::kept_shows_now, crate::specs::KeptLemmas::none_is_kept, crate::specs::KeptLemmas::kept_longer,))]
+pub fn what_is_kept_was_shown()
+    ensures texts { (n : ℕ) (moments : List (Moment ShownView)) (view : ShownView) → kept n moments ≡ Some view
+        → WasShown n moments view }
+    ensures names { (n : ℕ) (moments : List (Moment (List ℕ))) (name : List ℕ) → kept n moments ≡ Some name
+        → WasShown n moments name }
+    ensures shows_all { (n : ℕ) (now : Moment ShownView) (before : List (Moment ShownView)) (view : ShownView)
+        → now.shown ≡ Some view → kept n (now ∷ before) ≡ Some view }
+    ensures none { (now : Moment ShownView) (before : List (Moment ShownView)) → kept 0 (now ∷ before) ≡ now.shown }
+    ensures longer { (n : ℕ) (moments : List (Moment ShownView)) (view : ShownView) → kept n moments ≡ Some view
+        → kept (suc n) moments ≡ Some view }
 {}

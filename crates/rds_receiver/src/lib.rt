@@ -16,6 +16,7 @@ mod display;
 mod fragment;
 mod hearing;
 mod held;
+mod keeping;
 mod last;
 mod laws;
 mod receiver;
@@ -26,8 +27,9 @@ mod window;
 
 pub use display::{StoredDisplay, StoredSegments};
 pub use fragment::Fragment;
+pub use keeping::{Keeping, Kept};
 pub use last::StoredLastSegments;
-pub use laws::{one_view, run_is_the_longest};
+pub use laws::{one_view, run_is_the_longest, what_is_kept_was_shown};
 pub use receiver::{Receiver, heard, heard_blocks};
 pub use view::View;
 pub use why::{WhyNone, Whys};

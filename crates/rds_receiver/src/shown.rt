@@ -1,7 +1,10 @@
 //! What a receiver shows.
 ghost use Rattle.std.specs.Prelude.{◌≡◌, ◌<◌, ◌≤◌, IfSome, length, option_copied};
 ghost use Rattle.rds_receiver.specs.Borrowed.{borrowed_tag, view_of};
+ghost use Rattle.rds_receiver.specs.Kept.{flag_of};
 ghost use Rattle.rds_receiver.specs.NotShown.{AreWhys};
+ghost use Rattle.rds_receiver.specs.Receipts.{name_fragment, text_fragment};
+ghost use Rattle.rds_receiver.specs.Run.{run_at};
 ghost use Rattle.rds_receiver.specs.Shown.{IsItemShown, IsNameShown, IsShortText, IsTagShown, IsTextShown, IsView};
 ghost use Rattle.rds_receiver.specs.Shown.{view_with};
 ghost use Rattle.rds_receiver.specs.ReceiverAt.{WhatItHeard, WhereReceiverStands};
@@ -53,6 +56,20 @@ impl Receiver {
         ensures short { IfSome result (λ x. length x.now ≤ 64) }
     {
         self.display.text.whole::<RadioText>()
+    }
+
+    /// Returns the flag of the text segments that are held. `None` if none is held.
+    pub(crate) fn text_flag(&self) -> Option<bool>
+        ensures { WhatItHeard self.now (λ m first heard. result ≡ flag_of (run_at text_fragment m first heard)) }
+    {
+        self.display.text_flag()
+    }
+
+    /// Returns the flag of the segments of a name that are held. `None` if none is held.
+    pub(crate) fn name_flag(&self) -> Option<bool>
+        ensures { WhatItHeard self.now (λ m first heard. result ≡ flag_of (run_at name_fragment m first heard)) }
+    {
+        self.display.name_flag()
     }
 
     /// Returns the programme type name shown, eight bytes, borrowed from the receiver. `None` if no name is shown.

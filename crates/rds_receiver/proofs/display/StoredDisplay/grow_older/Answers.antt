@@ -6,7 +6,13 @@ use Rattle.rds_receiver.proofs.display.StoredDisplay.grow_older.Goals as goal
 
 pub returns-clause-same : goal.returns-clause-same
 returns-clause-same c calm = (let same = c.look.ensures.same calm
-    in record { text = same.text; name = same.name; pair = same.pair })
+    in record {
+      text = same.text;
+      name = same.name;
+      text_flag = same.text_flag;
+      name_flag = same.name_flag;
+      pair = same.pair;
+    })
 
 pub returns-clause-holds : goal.returns-clause-holds
 returns-clause-holds c stored m first heard st =

@@ -1,6 +1,6 @@
 use Rattle.std.proofs.Common.{◌≢◌, ◌≤◌, ap, arith, inl, subst, sym}
 use Rattle.std.proofs.lemmas.Bool.{or_parts}
-use Rattle.rds_fields.specs.Stored.{pair_stored}
+use Rattle.rds_fields.specs.Stored.{is_set, pair_stored}
 use Rattle.rds_receiver.specs.Holds.{ShowsAlike}
 use Rattle.rds_receiver.specs.Older.{IsOlder}
 use Rattle.rds_receiver.specs.Stored.{display_stored}
@@ -44,5 +44,7 @@ returns-clause-same c calm =
     record {
       text = c.drop_if_due-text.ensures.same text;
       name = c.drop_if_due-name.ensures.same name;
+      text_flag = inl (ap is_set c.drop_if_due-text.ensures.flag);
+      name_flag = inl (ap is_set c.drop_if_due-name.ensures.flag);
       pair = inl (ap pair_stored (c.drop_pair-pair.ensures.same pair));
     }

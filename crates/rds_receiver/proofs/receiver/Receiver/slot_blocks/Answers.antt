@@ -2,7 +2,7 @@ use Rattle.std.proofs.Common.{arith, ◌≡◌, ◌∙◌}
 use Rattle.std.proofs.lemmas.Bool.{or_parts}
 use Rattle.rds_receiver.specs.Receipts.{heard_of}
 use Rattle.rds_receiver.specs.Stored.{IsStoredReceiver}
-use Rattle.rds_receiver.proofs.Shows.{alike_by, stays_shown}
+use Rattle.rds_receiver.proofs.Shows.{alike_by, showing_goes_on, stays_shown}
 use Rattle.rds_receiver.proofs.ConfirmingSteps.{display_grown, slot_stands, with_display}
 use Rattle.rds_receiver.proofs.receiver.Receiver.slot_blocks.Goals as goal
 
@@ -26,3 +26,9 @@ returns-clause-same c calm view t input st shown =
     let (heard, aged) = or_parts _ _ calm in
     let alike = alike_by _ _ _ (c.grow_older-aged.ensures.same aged) (c.hear-is_new.ensures.same heard) in
     stays_shown t _ _ input _ view st (returns-clause-stands c t input st) alike shown
+
+pub returns-clause-goes_on : goal.returns-clause-goes_on
+returns-clause-goes_on c calm t input st s now is then =
+    let (heard, aged) = or_parts _ _ calm in
+    let alike = alike_by _ _ _ (c.grow_older-aged.ensures.same aged) (c.hear-is_new.ensures.same heard) in
+    showing_goes_on t _ _ input _ s now st (returns-clause-stands c t input st) alike is then
