@@ -47,7 +47,7 @@ use Rattle.rds_lines.specs.LogSlots.{IsLogOf}
 use Rattle.rds_lines.specs.OneLog.{same_log}
 use Rattle.rds_wire.specs.Printed.{Prints, Shows}
 use Rattle.rds_wire.specs.Safe.{StationPlans}
-use Rattle.rds_wire.specs.Wire.{aired}
+use Rattle.rds_wire.specs.Wire.{aired, planned}
 use Rattle.rds_wire.proofs.Logs.{is_log_of}
 
 -- ---- inputs on time
@@ -338,9 +338,6 @@ passed_is_safe_twice laws audits n pi m w k slots stop log some whole =
       plans = passed.plans;
       lawful = passed.lawful;
       safe = lawful_is_safe_twice laws n pi m w k log messages
-          (record {
-            plans = passed.plans;
-            HasTags = λ slot pair. IsMarkIn (marks text_mark messages) slot (Tagged pair);
-          })
+          (planned passed.plans messages)
           has passed.lawful (λ slot pair mark. mark);
     }

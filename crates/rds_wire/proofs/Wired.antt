@@ -56,7 +56,7 @@ use Rattle.rds_script.specs.declared.form.Form.TheVariants.{Log}
 use Rattle.rds_wire.specs.Printed.{Prints, Shows}
 use Rattle.rds_wire.specs.Safe.{StationPlans}
 use Rattle.rds_wire.specs.Wire.{Encodes, HasSafePlans, IsHead, IsSafeOnTheWire, WhatIsEncodedIsSafeOnTheWire}
-use Rattle.rds_wire.specs.Wire.{WhatPassesIsSafeOnTheWire, aired, station_of}
+use Rattle.rds_wire.specs.Wire.{WhatPassesIsSafeOnTheWire, aired, planned, station_of}
 use Rattle.rds_wire.proofs.Reading.{In, are_lines, contains_from_in, in_from_contains, line_shows, lines_of, stays}
 use Rattle.rds_wire.proofs.Reading.{unshown, AreTagsUpTo, IsContentOf, shown_safely}
 
@@ -349,10 +349,7 @@ passed_from laws audits Complete form stop n pi m k slots log some whole =
       plans = safe.plans;
       lawful = safe.lawful;
       safe = lawful_is_safe laws form stop n pi m k log whole.slots messages
-          (record {
-            plans = safe.plans;
-            HasTags = λ slot pair. IsMarkIn (marks text_mark messages) slot (Tagged pair);
-          })
+          (planned safe.plans messages)
           is refl safe.lawful (λ slot pair mark. mark);
     }
 passed_from laws audits Running form stop n pi m k slots log some whole =
@@ -365,10 +362,7 @@ passed_from laws audits Running form stop n pi m k slots log some whole =
       plans = safe.plans;
       lawful = safe.lawful;
       safe = recording_is_safe laws form stop n pi m k log whole.slots messages
-          (record {
-            plans = safe.plans;
-            HasTags = λ slot pair. IsMarkIn (marks text_mark (preceded (m + k) messages)) slot (Tagged pair);
-          })
+          (planned safe.plans (preceded (m + k) messages))
           is refl safe.lawful (λ slot pair mark. mark);
     }
 

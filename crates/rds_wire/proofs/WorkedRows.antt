@@ -11,20 +11,24 @@ use Rattle.rds_fields.specs.declared.message.Message.{Message}
 use Rattle.rds_encoder.specs.Plan.{Broadcast, HasNumber}
 use Rattle.rds_charset.specs.Printed.{printed_byte}
 use Rattle.rds_charset.specs.Table.{character_of}
-use Rattle.rds_log.specs.Audit.{complete}
+use Rattle.rds_audit.specs.Forms.{text_kind}
+use Rattle.rds_log.specs.Audit.{complete, judged, spacing}
+use Rattle.rds_log.specs.declared.audit_log.Auditing.{Auditing}
+use Rattle.rds_lines.specs.LogLines.{IsLine}
 use Rattle.rds_lines.specs.LogSlots.{IsLogOf}
 use Rattle.rds_lines.specs.OneLog.{same_log}
 use Rattle.rds_receiver.specs.Receipts.{heard_in, heard_of}
 use Rattle.rds_receiver.specs.Shown.{view_with}
-use Rattle.rds_safety.specs.Confirmed.{IsHeardWithWrong, WasSent}
+use Rattle.rds_safety.specs.Confirmed.{IsHeardWithWrong, WasSent, lateness_of_two}
 use Rattle.rds_safety.specs.Late.{HasEntry, IsHeardInOrder}
+use Rattle.rds_safety.specs.Plans.{AreLawful, AreLawfulAs, Plans}
 use Rattle.rds_view_lines.specs.Output.{quoted}
 use Rattle.rds_view_lines.specs.ViewParts.{IsNothing, Item, Name, Part, Tag1, Tag2, Text, part_content}
 use Rattle.rds_wire.specs.Printed.{Prints, Shows}
 use Rattle.rds_wire.specs.Received.{Came, IsReceived, LosesSlots, first_entries, own_group}
 use Rattle.rds_wire.specs.Safe.{AreSafe, StationPlans, WasOnAir, WentWith}
-use Rattle.rds_wire.specs.Twice.{HasMessages, IsReceivedWithWrong}
-use Rattle.rds_wire.specs.Wire.{IsSafeOnTheWire}
+use Rattle.rds_wire.specs.Twice.{HasMessages, HasPlansForTwo, IsReceivedWithWrong, IsSafeIfHeardTwice}
+use Rattle.rds_wire.specs.Wire.{HasSafePlans, IsSafeOnTheWire, aired, messages_of_plans, planned}
 use Rattle.rds_safety.proofs.Entries.{before_end}
 use Rattle.rds_wire.proofs.Logs.{dashes, group_says, empty_line, feedless}
 use Rattle.rds_wire.proofs.Wired.{entry_at}
@@ -371,3 +375,34 @@ another_title : AreSafe 8 29 (tagged_in 29) (showing (titled (codes " \"YO\"") (
 another_title safe =
     let it = went_with 8 29 (tagged_in 29) (codes " \"YO\"") (codes " ITEM.TITLE \"HI\"") safe in
     grind (arith, not_nothing (codes " ITEM.TITLE \"HI\""), is_yo safe.texts.k, title_of, it.cut Tag1 tt)
+
+-- ---- what is planned, and an output without a line
+
+-- nothing is on air before the first slot, and no tags without a text
+no_tags_on_air : (pair : PairFields) → (aired 8 []).HasTags 0 pair → ⊥
+no_tags_on_air pair is = cc
+
+no_tags_planned : (plans : Plans) (pair : PairFields) → (planned plans []).HasTags 0 pair → ⊥
+no_tags_planned plans pair is = is
+
+-- an output without a line shows nothing, and one with a line of the text does not lack it
+nothing_yet : Shows [] 0 Text (codes " none")
+nothing_yet = inr (
+  record {
+    lines = [];
+    are = ([], [], refl, All-nil IsLine, empty_line, inl (refl, refl));
+    none = λ u content upto has. omega (arith, has.1);
+  },
+  refl,
+)
+
+-- the plans of a log that passes are lawful for what is judged of it, and by them it is safe
+safe_plans_are_lawful : (a : Auditing) (log : List ℕ) (has : HasSafePlans a log)
+    → AreLawfulAs (text_kind a.form) (spacing a) has.plans (judged a has.slots)
+    × IsSafeOnTheWire a log (planned has.plans (messages_of_plans a.start (spacing a) (heard_of a.pi has.slots)))
+safe_plans_are_lawful a log has = (has.lawful, has.safe)
+
+plans_for_two_are_lawful : (n pi m w k : ℕ) (log : List ℕ) (has : HasPlansForTwo n pi m w k log)
+    → AreLawful (m + lateness_of_two w k) has.plans has.messages
+    × IsSafeIfHeardTwice n pi m w k log (planned has.plans has.messages)
+plans_for_two_are_lawful n pi m w k log has = (has.lawful, has.safe)

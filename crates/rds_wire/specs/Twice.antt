@@ -7,7 +7,6 @@ use Rattle.rds_fields.specs.declared.head.Head.{Head}
 use Rattle.rds_fields.specs.declared.message.Message.{Message}
 use Rattle.rds_receiver.specs.Receipts.{AreHeard, heard_of}
 use Rattle.rds_safety.specs.Confirmed.{IsHeardWithWrong, NoWrongConfirmed, lateness_of_two}
-use Rattle.rds_safety.specs.Marks.{IsMarkIn, Tagged, marks, text_mark}
 use Rattle.rds_safety.specs.Plans.{AreLawful, Plans}
 use Rattle.rds_log.specs.Audit.{WholePasses}
 use Rattle.rds_lines.specs.LogSlots.{IsLogOf}
@@ -17,7 +16,7 @@ use Rattle.rds_script.specs.declared.form.Form.TheVariants.{Log}
 use Rattle.rds_wire.specs.Printed.{Prints, Shows}
 use Rattle.rds_wire.specs.Received.{LosesSlots, first_entries}
 use Rattle.rds_wire.specs.Safe.{AreSafe, StationPlans}
-use Rattle.rds_wire.specs.Wire.{Encodes, IsHead, aired, complete_in, station_of}
+use Rattle.rds_wire.specs.Wire.{Encodes, IsHead, aired, complete_in, planned, station_of}
 
 -- receivers of this programme hear these messages in the slots of a log with tags in groups nA
 pub record HasMessages (n pi : ℕ) (log : List ℕ) (messages : List (Option Message)) : Type 0 where
@@ -65,10 +64,7 @@ pub record HasPlansForTwo (n pi m w k : ℕ) (log : List ℕ) : Type 0 where
   pub has : HasMessages n pi log messages
   pub plans : Plans
   pub lawful : AreLawful (m + lateness_of_two w k) plans messages
-  pub safe : IsSafeIfHeardTwice n pi m w k log record {
-    plans = plans;
-    HasTags = λ slot pair. IsMarkIn (marks text_mark messages) slot (Tagged pair);
-  }
+  pub safe : IsSafeIfHeardTwice n pi m w k log (planned plans messages)
 
 -- a complete log to which `audit` says yes with a lateness of k + w - 1 has such plans, wherever the audit would stop
 abbrev pub WhatPassesIsSafeIfHeardTwice : Type 0

@@ -91,17 +91,20 @@ abbrev pub messages_of_plans : LogStart → ℕ → List (Option Message) → Li
 messages_of_plans Complete d messages = messages
 messages_of_plans Running d messages = preceded d messages
 
+-- what these messages have on air by plans: their texts and names, and in each slot the pair that they have there
+abbrev pub planned : Plans → List (Option Message) → StationPlans
+planned plans messages = record {
+  plans = plans;
+  HasTags = λ slot pair. IsMarkIn (marks text_mark messages) slot (Tagged pair);
+}
+
 -- some plans are lawful for what `audit` judges of the messages of the log, and by them the log is safe on the wire
 pub record HasSafePlans (a : Auditing) (log : List ℕ) : Type 0 where
   pub slots : List (Option Group)
   pub has : IsLogOf a.rtplus log slots
   pub plans : Plans
   pub lawful : AreLawfulAs (text_kind a.form) (spacing a) plans (judged a slots)
-  pub safe : IsSafeOnTheWire a log record {
-    plans = plans;
-    HasTags = λ slot pair.
-        IsMarkIn (marks text_mark (messages_of_plans a.start (spacing a) (heard_of a.pi slots))) slot (Tagged pair);
-  }
+  pub safe : IsSafeOnTheWire a log (planned plans (messages_of_plans a.start (spacing a) (heard_of a.pi slots)))
 
 -- a log to which `audit` says yes has safe plans
 abbrev pub WhatPassesIsSafeOnTheWire : Type 0
