@@ -414,19 +414,17 @@ module _ (law : ARunHasOneSource) (d now : ℕ) (air : StationPlans) (sent : Lis
       → ShowsNoTags view ⊎ ShowsTagsOf d air.plans.text sent i r view
       → (was : IfSome view.text (RunWasOnAir d now air.plans.text i r)) (k : ℕ)
       → IsNumberOf d now air.plans.text i r view.text was k
-      → ((part : Part) → IsOfPair part → IsNothing (contents part)) ⊎ WentWith d now air x contents k
+      → ((part : Part) → IsOfPair part → contents part ≡ codes " none") ⊎ WentWith d now air x contents k
   was_with x contents ex ey (inl none) was k number = grind arith
   was_with x contents ex ey (inr tags) was k number = by view.text refl was number
     where
       by : (o : Option (List ℕ)) → view.text ≡ o → (was : IfSome o (RunWasOnAir d now air.plans.text i r))
           → IsNumberOf d now air.plans.text i r o was k
-          → ((part : Part) → IsOfPair part → IsNothing (contents part)) ⊎ WentWith d now air x contents k
+          → ((part : Part) → IsOfPair part → contents part ≡ codes " none") ⊎ WentWith d now air x contents k
       by None text was number =
-          inl (λ part of. (
-            None,
-            (ey part of).1 ∙ none_without part of (ey part of).0 view (pair_held m i.first i.heard)
-                text shows.item shows.one shows.two,
-          ))
+          inl (λ part of.
+          (ey part of).1 ∙ none_without part of (ey part of).0 view (pair_held m i.first i.heard)
+          text shows.item shows.one shows.two)
       by (Some a) text was number =
           let same = law d air.plans.text i r was.number tags.number was.broadcast tags.broadcast spaced was.source
           tags.source in
@@ -450,7 +448,7 @@ module _ (law : ARunHasOneSource) (d now : ℕ) (air : StationPlans) (sent : Lis
             by_now = went.1;
             cut = λ part of.
                 elim (of_pair part of (ey part of).0 view tags.broadcast.bytes tags.pair tags.item tags.one tags.two) [
-                  | inl none ↦ inl (None, (ey part of).1 ∙ none)
+                  | inl none ↦ inl ((ey part of).1 ∙ none)
                   | inr cut ↦ inr ((ey part of).1 ∙ cut)
                 ];
           } in

@@ -320,7 +320,7 @@ went_with : (d now : ℕ) (air : StationPlans) (text tag : List ℕ)
     (safe : AreSafe d now air (showing (titled text tag)) (showing (titled text tag)))
     → WentWith d now air text (titled text tag) safe.texts.k
 went_with d now air text tag safe = elim (safe.texts.first.tags text (titled text tag) refl (λ part of. refl)) [
-  | inl none ↦ absurd (not_nothing (codes " 0 1") (λ e. omega (arith, e)) (none Item tt))
+  | inl none ↦ absurd (let bad : 48 ≡ 110 = ap (λ (l : List ℕ). get_or l 1 0) (none Item tt) in omega (arith, bad))
   | inr with_it ↦ with_it
 ]
 

@@ -1,6 +1,6 @@
 -- When what two receivers show is safe (this project's own rule): it was on air lately, and belongs together. d is
 -- M + K, and `now` the slot of the station. Lists have the newest first.
-use Rattle.std.specs.Prelude.{◌≡◌, ◌⊎◌, ◌<◌, ◌≤◌, ◌+◌, ℕ, List, None, Some}
+use Rattle.std.specs.Prelude.{◌≡◌, ◌⊎◌, ◌<◌, ◌≤◌, ◌+◌, ℕ, List, None, Some, codes}
 use Rattle.rds_fields.specs.Tag.{PairFields}
 use Rattle.rds_encoder.specs.Plan.{Broadcast, Covers, HasNumber}
 use Rattle.rds_receiver.specs.Shown.{view_with}
@@ -62,7 +62,7 @@ pub record WentWith (d now : ℕ) (air : StationPlans) (text : List ℕ) (conten
   pub lasted : on_air.broadcast.start + d ≤ slot
   pub to : slot ≤ on_air.broadcast.end
   pub by_now : slot ≤ now
-  pub cut : (part : Part) → IsOfPair part → IsNothing (contents part)
+  pub cut : (part : Part) → IsOfPair part → (contents part ≡ codes " none")
       ⊎ (contents part ≡ part_content part None (view_with (Some on_air.broadcast.bytes) None (Some pair)))
 
 -- a receiver that shows these contents of its parts shows text number k or none. Its item bits and tags went with the
@@ -71,7 +71,7 @@ pub record ShowsText (d now : ℕ) (air : StationPlans) (Shown : Part → List �
   pub text : ShowsBroadcast d now air.plans.text (Shown Text) k
   pub tags : (text : List ℕ) (contents : Part → List ℕ) → Shown Text text
       → ((part : Part) → IsOfPair part → Shown part (contents part))
-      → ((part : Part) → IsOfPair part → IsNothing (contents part)) ⊎ WentWith d now air text contents k
+      → ((part : Part) → IsOfPair part → contents part ≡ codes " none") ⊎ WentWith d now air text contents k
 
 -- two receivers show these contents of their parts, and that is safe. Each text and name was on air in one of the d
 -- slots up to `now`, and the item bits and the tags went with the text that is shown. Both receivers show one
