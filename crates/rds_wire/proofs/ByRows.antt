@@ -2,7 +2,7 @@
 use Rattle.std.proofs.Common.{◌≡◌, ◌<◌, ◌≤◌, ◌+◌, ◌-◌, ◌*◌, ◌&&◌, ◌∷◌, [], ◌∙◌, ℕ, Bool, true, false}
 use Rattle.std.proofs.Common.{List, Option, None, Some, ap, arith, codes, length, refl, inl, inr, subst, sym, nat_le}
 use Rattle.std.proofs.lemmas.Bool.Decides.{nat_tests}
-use Rattle.std.specs.Prelude.{if◌then◌else◌, option_map, slice_index_or, is_ok}
+use Rattle.std.specs.Prelude.{if◌then◌else◌, option_map, is_ok}
 use Rattle.std.specs.Option.{option_map_or}
 use Rattle.rds_charset.specs.ReadAs.{IsReadAs}
 use Rattle.rds_encoder.specs.Entries.{Entry, Move, Begin, Set, End, Tick, name_moves, restart_before, slot_of}
@@ -15,7 +15,7 @@ use Rattle.rds_world.specs.Slots.{commanded, entries}
 use Rattle.rds_world.specs.declared.event.Command.{Command}
 use Rattle.rds_world.specs.declared.event.Command.TheVariants.{Quiet, Restart, SetText, SetName, SetTags}
 use Rattle.rds_world.specs.declared.world.Config.{Config}
-use Rattle.rds_wire.specs.Headline.{Air, Row, after_row, air, filled, has_word, may_set}
+use Rattle.rds_wire.specs.Headline.{Air, Row, after_row, air, argument_of, filled, has_word, may_set}
 use Rattle.rds_wire.specs.Received.{first_entries}
 use Rattle.rds_wire.proofs.Receiving.{first_all, first_more}
 
@@ -36,7 +36,7 @@ moves_of (Gives free x ∷ before) = End free ∷ Set x ∷ moves_of before
 -- the argument of the row gives these bytes
 pub record Sets (word : List ℕ) (row : Row) (x : List ℕ) : Type 0 where
   pub given : List ℕ
-  pub read : IsReadAs (slice_index_or row 1 []) given
+  pub read : IsReadAs (argument_of row) given
   pub is : x ≡ filled word given
 
 -- the row does this to the service of the word
@@ -83,7 +83,7 @@ same_moves true [] = refl
 same_moves names (e ∷ before) =
     moves_after names e.free e.command (entries before) (acts names before) (same_moves names before)
 
-does : (names : Bool) (word argument : List ℕ) (rest : Row) (free : Bool) (c : Command) → SaysCommand word argument c
+pub does : (names : Bool) (word argument : List ℕ) (rest : Row) (free : Bool) (c : Command) → SaysCommand word argument c
     → Does (word_of names) (word ∷ argument ∷ rest) (act_of names free c)
 does names word argument rest free c says = grind arith
 
@@ -104,17 +104,17 @@ restarted : (word : List ℕ) (d slot : ℕ) (row : Row) (a : Air) → has_word 
     → after_row word d slot row a ≡ record { number = a.number; started = slot; set = None }
 restarted word d slot row a restarts = rw restarts refl
 
-kept : (word : List ℕ) (d slot : ℕ) (row : Row) (a : Air) → has_word (codes "restart") row ≡ false
+pub kept : (word : List ℕ) (d slot : ℕ) (row : Row) (a : Air) → has_word (codes "restart") row ≡ false
     → has_word word row ≡ false → after_row word d slot row a ≡ a
 kept word d slot row a goes other = rw (goes, other) refl
 
-refused : (word : List ℕ) (d slot : ℕ) (row : Row) (a : Air) → has_word (codes "restart") row ≡ false
+pub refused : (word : List ℕ) (d slot : ℕ) (row : Row) (a : Air) → has_word (codes "restart") row ≡ false
     → may_set d slot a ≡ false → after_row word d slot row a ≡ a
 refused word d slot row a goes held = grind (arith, nat_tests)
 
-accepted : (word : List ℕ) (d slot : ℕ) (row : Row) (a : Air) → has_word (codes "restart") row ≡ false
+pub accepted : (word : List ℕ) (d slot : ℕ) (row : Row) (a : Air) → has_word (codes "restart") row ≡ false
     → has_word word row ≡ true → may_set d slot a ≡ true → after_row word d slot row a
-    ≡ record { number = a.number + 1; started = a.started; set = Some (slot, slice_index_or row 1 []) }
+    ≡ record { number = a.number + 1; started = a.started; set = Some (slot, argument_of row) }
 accepted word d slot row a goes is may = rw (goes, is, may) refl
 
 -- the rule of the station is the reply of the encoder
@@ -132,7 +132,7 @@ pub record Tracks (d slot : ℕ) (a : Air) (moves : List Move) : Type 0 where
   pub number : (end : ℕ) → length (plan_of d end moves) ≡ a.number
 
 -- so the next text or name is accepted by the rule exactly if it is by the encoder
-replies : (d slot : ℕ) (a : Air) (moves : List Move) → Tracks d slot a moves
+pub replies : (d slot : ℕ) (a : Air) (moves : List Move) → Tracks d slot a moves
     → may_set d slot a ≡ is_ok (reply_to d moves)
 replies d slot a moves t = grind (arith, nat_tests, same_rule)
 
@@ -151,7 +151,7 @@ given : (word : List ℕ) (d slot : ℕ) (row : Row) (free : Bool) (x : List ℕ
     → Tracks d (slot + 1) (after_row word d slot row a) (End free ∷ Set x ∷ moves)
 given word d slot row free x a moves t goes is = grind (arith, nat_tests, accepted, replies, refused)
 
-tracks : (word : List ℕ) (d : ℕ) (rows : List Row) (acts : List Act) → Do word rows acts
+pub tracks : (word : List ℕ) (d : ℕ) (rows : List Row) (acts : List Act) → Do word rows acts
     → Tracks d (length rows) (air word d rows) (moves_of acts)
 tracks word d [] [] do_so = record { slot_is = refl; started = refl; last = refl; number = λ end. refl }
 tracks word d (row ∷ before) (Begins free ∷ older) do_so =
@@ -168,6 +168,7 @@ tracks word d (row ∷ before) [] do_so = absurd do_so
 -- up to a slot that the broadcast covers, the rows have it on air
 pub record OnAirIn (word : List ℕ) (d : ℕ) (rows : List Row) (end slot : ℕ) (b : Broadcast) (k : ℕ) : Type 0 where
   pub start : ℕ
+  pub begins : start ≡ b.start
   pub argument : List ℕ
   pub set : (air word d (first_entries (slot + 1) rows)).set ≡ Some (start, argument)
   pub number : (air word d (first_entries (slot + 1) rows)).number ≡ k + 1
@@ -216,7 +217,8 @@ at_set word d row before free x older does t end k slot b few earlier has covers
       (replies d (length before) (air word d before) (moves_of older) t ∙ ok) in
       record {
         start = length before;
-        argument = slice_index_or row 1 [];
+        begins = omega (arith, t.slot_is, ap (λ (c : Broadcast). c.start) here.1);
+        argument = argument_of row;
         set = ap (λ (a : Air). a.set) now;
         number = ap (λ (a : Air). a.number) now
             ∙ omega (arith, here.0, t.number (slot_of (moves_of older) - 1));

@@ -8,6 +8,8 @@ pub mod Runs
 pub mod Twice
 pub mod WorkedRows
 pub mod ByRows
+pub mod TagRows
+pub mod Newest
 pub mod MissesNothing
 pub mod Recorded
 pub mod Reached

@@ -22,13 +22,12 @@ use Rattle.rds_fields.specs.declared.head.Head.{Head}
 use Rattle.rds_fields.specs.declared.message.Message.{Message}
 use Rattle.rds_fields.specs.declared.message.Message.TheVariants.{Text, Name, Announce, Tags, Other}
 use Rattle.rds_encoder.specs.Entries.{Entry}
-use Rattle.rds_encoder.specs.Round.{turn_in}
-use Rattle.rds_encoder.specs.Sent.{IsSent, sent_at_turn, sent_in}
+use Rattle.rds_encoder.specs.Sent.{IsSent, sent_in}
 use Rattle.rds_encoder.specs.declared.reply.Refusal.{Refusal}
 use Rattle.rds_lines.specs.LogSlots.{IsLogOf, AreSlots}
 use Rattle.rds_lines.specs.LineSays.{IsLaidOut, IsSkipped, SaysSlot}
 use Rattle.rds_lines.specs.OneLog.{says_group}
-use Rattle.rds_lines.specs.LogLines.{IsLine, Line, content_length, line_feed, text_of}
+use Rattle.rds_lines.specs.LogLines.{IsLine, Line, content_length, text_of}
 use Rattle.rds_fields.specs.TagGroup.{MayCarryTags, exchanged, exchanged_in}
 use Rattle.rds_fields.proofs.Exchange.{exchanged_in_twice}
 use Rattle.rds_log.proofs.Filled.{more_text}

@@ -1,19 +1,17 @@
 -- The headline of audits.
-use Rattle.std.proofs.Common.{◌≡◌, ◌≢◌, ◌<◌, ◌≤◌, ◌+◌, ◌-◌, ◌^◌, ◌++◌, ◌∷◌, [], ◌∙◌, ℕ, Bool, true, false}
-use Rattle.std.proofs.Common.{List, Option, None, Some, ap, arith, codes, length, refl, inl, inr, subst, sym, map}
+use Rattle.std.proofs.Common.{◌≡◌, ◌<◌, ◌≤◌, ◌+◌, ◌-◌, ◌^◌, ◌∙◌, ℕ, false}
+use Rattle.std.proofs.Common.{List, Option, None, Some, ap, arith, length, refl, inl, inr, subst, sym, map}
 use Rattle.rds_receiver.specs.Shown.{ShownView}
 use Rattle.rds_receiver.specs.declared.why.Whys.{Whys}
 use Rattle.rds_safety.specs.Late.{HasEntry}
 use Rattle.rds_safety.specs.Laws.{LawfulIsLawfulPadded, PlanLaws}
-use Rattle.rds_safety.proofs.Entries.{before_end}
 use Rattle.rds_audit.specs.AuditLaws.{WhatPassesAsARecordingIsSafe, WhatPassesIsSafe}
 use Rattle.rds_audit.specs.declared.log_start.LogStart.{LogStart}
 use Rattle.rds_audit.specs.declared.log_start.LogStart.TheVariants.{Complete, Running}
 use Rattle.rds_audit.specs.Recording.{from_first_text, judged_as, preceded}
 use Rattle.rds_audit.specs.Rules.{LogPasses}
-use Rattle.rds_lines.specs.LogLines.{Line}
-use Rattle.rds_view_lines.specs.Output.{Display, newest, none_content, nothing_shown}
-use Rattle.rds_view_lines.specs.ViewParts.{Item, Name, Part, Tag1, Tag2, Text, line_in, part_content}
+use Rattle.rds_view_lines.specs.Output.{Display}
+use Rattle.rds_view_lines.specs.ViewParts.{Name, Part, Text, line_in, part_content}
 use Rattle.std.specs.Prelude.{drop}
 use Rattle.std.proofs.lemmas.List.{drop-map}
 use lib.ListN.{length-map}
@@ -45,7 +43,7 @@ use Rattle.rds_log.specs.declared.audit_log.Auditing.{Auditing}
 use Rattle.rds_lines.specs.LogSlots.{IsLogOf}
 use Rattle.rds_view_lines.specs.Output.{quoted, text_content, why_name, why_text}
 use Rattle.rds_view_lines.specs.ViewParts.{part_name}
-use Rattle.rds_wire.specs.Headline.{Displays, Reaches, slots}
+use Rattle.rds_wire.specs.Headline.{Displays, Reaches, in_quotes, slots}
 use Rattle.rds_wire.specs.NothingNew.{NothingNew, decoding}
 use Rattle.rds_wire.specs.Received.{first_entries, own_group}
 use Rattle.rds_wire.proofs.Headline.{displays_shows, in_output, not_nothing, of_output, same_printed}
@@ -55,105 +53,14 @@ use Rattle.rds_wire.proofs.Reached.{heard_late, origins_of, slots_long}
 use Rattle.rds_wire.proofs.Reading.{IsContentOf, contains_from_in, in_from_contains}
 use Rattle.rds_wire.proofs.Receiving.{displays_long, first_length, late_groups, own_heard, view_in}
 use Rattle.rds_wire.proofs.Wired.{entry_at, shown as shown_by}
-use Rattle.rds_wire.proofs.Reading.{In, in_body, in_older, in_slot, is_same_part, line_shows, lines_of}
-use Rattle.rds_wire.proofs.Reading.{of_slot, part_stays, same_line, with_body, with_slot}
-
--- ---- the newest line of a part
-
--- a part that did not change has no line
-no_line : (n v : ℕ) (before : ShownView) (now : Display) (p q : Part) (other : List ℕ) (rest : List Line) → v < 2 ^ 64
-    → n < 2 ^ 64 → is_same_part p before now.view ≡ true → In (line_in v p other) (with_body n before now q rest)
-    → In (line_in v p other) rest
-no_line n v before now p q other rest small less same is = grind (arith, in_body, same_line)
-
-no_line_in : (n v : ℕ) (before : ShownView) (now : Display) (p : Part) (other : List ℕ) (rest : List Line) → v < 2 ^ 64
-    → n < 2 ^ 64 → is_same_part p before now.view ≡ true → In (line_in v p other) (with_slot n before now rest)
-    → In (line_in v p other) rest
-no_line_in n v before now p other rest small less same is =
-    no_line n v before now p Text other rest small less same
-    (no_line n v before now p Name other _ small less same
-    (no_line n v before now p Item other _ small less same
-    (no_line n v before now p Tag1 other _ small less same (no_line n v before now p Tag2 other _ small less same is))))
-
--- in this slot is the newest line of the part up to slot u, with this content
-abbrev HasNewest : List Display → Part → List ℕ → ℕ → Type 0
-HasNewest displays p content u =
-    (s : ℕ) × (s ≤ u) × In (line_in s p content) (lines_of displays)
-    × ((v : ℕ) (other : List ℕ) → s < v → v ≤ u → In (line_in v p other) (lines_of displays) → ⊥)
-
--- what a part shows after a slot in which it showed the same
-at_top : (x y : Display) (more : List Display) (p : Part) (content : List ℕ) (u : ℕ) → u ≡ length (y ∷ more)
-    → length (x ∷ y ∷ more) < 2 ^ 64 → part_content p x.whys x.view ≡ content
-    → (is_same_part p y.view x.view ≡ true → HasNewest (y ∷ more) p content (length more)) → (same : Bool)
-    → is_same_part p y.view x.view ≡ same → HasNewest (x ∷ y ∷ more) p content u
-at_top x y more p content u at few is before true same =
-    let it = before same in (
-      it.0,
-      omega (arith, it.1, at),
-      in_older (line_in it.0 p content) (length (y ∷ more)) y.view x (lines_of (y ∷ more)) it.2,
-      λ v other after upto line.
-          let earlier = no_line_in (length (y ∷ more)) v y.view x p other (lines_of (y ∷ more))
-          (omega (arith, upto, at, few)) (omega (arith, few)) same line in
-          let shows = line_shows (y ∷ more) v p other (omega (arith, upto, at, few)) (omega (arith, few)) earlier in
-          it.3 v other after (omega (arith, before_end 0 (y ∷ more) v shows.0 shows.1)) earlier,
-    )
-at_top x y more p content u at few is before false same = (
-  u,
-  omega arith,
-  subst (λ n. In (line_in n p content) (lines_of (x ∷ y ∷ more))) (sym at)
-      (subst (λ c. In (line_in (length (y ∷ more)) p c) (lines_of (x ∷ y ∷ more))) is
-      (in_slot p (length (y ∷ more)) y.view x (lines_of (y ∷ more)) same)),
-  λ v other after upto line. omega (arith, after, upto),
-)
-
-nothing_before : (p : Part) → part_content p None nothing_shown ≡ none_content None
-nothing_before p = grind arith
-
-at_first : (x : Display) (p : Part) (content : List ℕ) → ((whys : Option Whys) → part_content p whys x.view ≡ content)
-    → content ≢ none_content None → (same : Bool) → is_same_part p nothing_shown x.view ≡ same
-    → HasNewest (x ∷ []) p content 0
-at_first x p content is some true same =
-    absurd (some (sym (is None) ∙ sym (part_stays p None nothing_shown x.view same) ∙ nothing_before p))
-at_first x p content is some false same = (
-  0,
-  omega arith,
-  subst (λ c. In (line_in 0 p c) (lines_of (x ∷ []))) (is x.whys) (in_slot p 0 nothing_shown x [] same),
-  λ v other after upto line. omega (arith, after, upto),
-)
-
--- what the display of a slot shows has a newest line
-newest_line : (displays : List Display) (p : Part) (content : List ℕ) (u : ℕ) (d : Display) → HasEntry 0 displays u d
-    → length displays < 2 ^ 64 → ((whys : Option Whys) → part_content p whys d.view ≡ content)
-    → content ≢ none_content None → HasNewest displays p content u
-newest_line [] p content u d at few is some = absurd at
-newest_line (x ∷ older) p content u d (inr there) few is some =
-    let it = newest_line older p content u d there (omega (arith, few)) is some in
-    let below = before_end 0 older u d there in (
-      it.0,
-      it.1,
-      in_older (line_in it.0 p content) (length older) (newest older) x (lines_of older) it.2,
-      λ v other after upto line.
-          elim (of_slot (length older) v (newest older) x p other (lines_of older) (omega (arith, upto, below, few))
-          (omega (arith, few)) line) [
-            | inl here ↦ absurd (omega (arith, here.slot, upto, below))
-            | inr earlier ↦ it.3 v other after upto earlier
-          ],
-    )
-newest_line (x ∷ []) p content u d (inl here) few is some =
-    subst (HasNewest (x ∷ []) p content) (omega (arith, here.0))
-    (at_first x p content (λ whys. ap (λ (z : Display). part_content p whys z.view) (sym here.1) ∙ is whys) some
-    (is_same_part p nothing_shown x.view) refl)
-newest_line (x ∷ y ∷ more) p content u d (inl here) few is some =
-    let own = λ (whys : Option Whys). ap (λ (z : Display). part_content p whys z.view) (sym here.1) ∙ is whys in
-    at_top x y more p content u (omega (arith, here.0)) few (own x.whys)
-    (λ same. newest_line (y ∷ more) p content (length more) y (inl (omega arith, refl)) (omega (arith, few))
-    (λ whys. part_stays p whys y.view x.view same ∙ own whys) some) (is_same_part p y.view x.view) refl
+use Rattle.rds_wire.proofs.Newest.{HasNewest, newest_line}
+use Rattle.rds_wire.proofs.Reading.{In, lines_of}
 
 -- ---- one part
 
 -- what is shown between quotation marks is a value
 has_value : (why : Option WhyNone) (o : Option (List ℕ)) (shown : List ℕ)
-    → codes " \"" ++ (shown ++ codes "\"") ≡ text_content why o
+    → in_quotes shown ≡ text_content why o
     → (x : List ℕ) × (o ≡ Some x) × (shown ≡ printed x)
 has_value why None shown e = absurd (not_nothing shown (why, e))
 has_value why (Some x) shown e = (x, refl, same_printed shown x e)
@@ -179,10 +86,10 @@ module _ (part : Part) (value : ShownView → Option (List ℕ)) (why : Option W
 
   of_part : (a : Auditing) (n : ℕ) (log : List ℕ) (passes : WholePasses a n log) → n < 2 ^ 64
       → IsShownByWhole pick IsWhole a.dwell a.late (heard_of a.pi passes.slots)
-      → (received output whole : List ℕ) → Reaches a.late log received
+      → (received output whole : List ℕ) → Reaches a.pi a.late log received
       → LogWrites (decoding a a.dwell) received output → LogWrites (decoding a (spacing a)) log whole
-      → (shown : List ℕ) (t : ℕ) → t < length (slots received) → Displays output t (part_name part) shown
-      → (u : ℕ) × (u ≤ t) × (t < u + spacing a) × Displays whole u (part_name part) shown
+      → (shown : List ℕ) (t : ℕ) → t < length (slots received) → Displays output t (part_name part) (in_quotes shown)
+      → (u : ℕ) × (u ≤ t) × (t < u + spacing a) × Displays whole u (part_name part) (in_quotes shown)
   of_part a n log passes few by received output whole reaches r w shown t below d = (
     core.0,
     core.1,
@@ -191,10 +98,10 @@ module _ (part : Part) (value : ShownView → Option (List ℕ)) (why : Option W
       slot = line.0;
       past = line.1;
       line = in_output w.write.write.displays whole w.write.write.changes line.0 part
-          (codes " \"" ++ (shown ++ codes "\""))
-          (contains_from_in (line_in line.0 part (codes " \"" ++ (shown ++ codes "\"")))
+          (in_quotes shown)
+          (contains_from_in (line_in line.0 part (in_quotes shown))
           (lines_of w.write.write.displays)
-          (subst (λ l. In (line_in line.0 part (codes " \"" ++ (l ++ codes "\""))) (lines_of w.write.write.displays))
+          (subst (λ l. In (line_in line.0 part (in_quotes l)) (lines_of w.write.write.displays))
           (sym val.2) line.2));
       newest = λ v other after upto has. line.3 v other after upto
           (in_from_contains (line_in v part other) (lines_of w.write.write.displays)
@@ -212,8 +119,8 @@ module _ (part : Part) (value : ShownView → Option (List ℕ)) (why : Option W
       at_t = entry_at r.write.write.displays t
           (omega (arith, t_long, displays_long false (tuning_of (decoding a a.dwell)) r.write.slots _ r.write.write.are))
 
-      content : IsContentOf part at_t.0.view (codes " \"" ++ (shown ++ codes "\""))
-      content = shown_by r.write.write.displays output t part (codes " \"" ++ (shown ++ codes "\"")) at_t.0
+      content : IsContentOf part at_t.0.view (in_quotes shown)
+      content = shown_by r.write.write.displays output t part (in_quotes shown) at_t.0
           r.write.write.changes
           (omega (
             arith,
@@ -221,7 +128,7 @@ module _ (part : Part) (value : ShownView → Option (List ℕ)) (why : Option W
             slots_long a.rtplus received r.cut r.write.slots r.are r.write.say,
             displays_long false (tuning_of (decoding a a.dwell)) r.write.slots _ r.write.write.are,
           )) at_t.1
-          (displays_shows r.write.write.displays output r.write.write.changes t part shown d)
+          (displays_shows r.write.write.displays output r.write.write.changes t part (in_quotes shown) d)
 
       val : (x : List ℕ) × (value at_t.0.view ≡ Some x) × (shown ≡ printed x)
       val = has_value (why content.0) (value at_t.0.view) shown (content.1 ∙ is content.0 at_t.0.view)
@@ -325,12 +232,12 @@ nothing_new laws wider passes recorded a n log some few whole_log received outpu
     let has = whole_of laws wider passes recorded a.start a.form a.dwell a.late (heard_of a.pi whole_log.slots) some
     whole_log.pass.passes in
     elim is [
-      | inl e ↦ subst (λ it. (u : ℕ) × (u ≤ t) × (t < u + spacing a) × Displays whole u it shown) (sym e)
+      | inl e ↦ subst (λ it. (u : ℕ) × (u ≤ t) × (t < u + spacing a) × Displays whole u it (in_quotes shown)) (sym e)
           (of_part Text (λ v. v.text) why_text (λ whys view. refl) text_fragment IsWholeText
           (λ m first heard view so. so.text) a n log whole_log few has.text received output whole reaches r w shown t
-          below (subst (λ it. Displays output t it shown) e d))
-      | inr e ↦ subst (λ it. (u : ℕ) × (u ≤ t) × (t < u + spacing a) × Displays whole u it shown) (sym e)
+          below (subst (λ it. Displays output t it (in_quotes shown)) e d))
+      | inr e ↦ subst (λ it. (u : ℕ) × (u ≤ t) × (t < u + spacing a) × Displays whole u it (in_quotes shown)) (sym e)
           (of_part Name (λ v. v.name) why_name (λ whys view. refl) name_fragment IsWholeName
           (λ m first heard view so. so.name) a n log whole_log few has.name received output whole reaches r w shown t
-          below (subst (λ it. Displays output t it shown) e d))
+          below (subst (λ it. Displays output t it (in_quotes shown)) e d))
     ]

@@ -1,20 +1,23 @@
 -- What reaches a receiver of a log, line by line, is received slot by slot.
 use Rattle.std.proofs.Common.{◌≡◌, ◌≢◌, ◌⊎◌, ◌<◌, ◌≤◌, ◌+◌, ◌==◌, ◌++◌, ◌∷◌, [], ◌∙◌, ℕ, zero, suc, Bool, true}
-use Rattle.std.proofs.Common.{false, cond, List, Option, None, Some, ap, arith, codes, length, refl, inl, inr, subst}
+use Rattle.std.proofs.Common.{false, cond, List, Option, None, Some, ap, arith, length, refl, inl, inr, subst}
 use Rattle.std.proofs.Common.{append-nil, sym, All, map, get_or, slice_get}
 use Rattle.std.proofs.lemmas.Bool.Decides.{nat_tests}
 use Rattle.std.proofs.lemmas.Grind.{reverse_onto}
-use Rattle.std.proofs.lemmas.List.{length-reverse}
+use Rattle.std.proofs.lemmas.List.{length-map, length-reverse, length-take-le, map-append}
 use Rattle.std.proofs.lemmas.List.Elements.{filter-append, All-head, All-tail, All-nil}
 use Rattle.std.proofs.lemmas.List.Splits.{slice_split_none, length-slice_split}
 use Rattle.std.proofs.lemmas.Option.{slice_get_within}
-use Rattle.std.specs.Char.{digit_value}
+use Rattle.std.proofs.lemmas.Slice.Eq.{bytes_eq-Decides}
+use Rattle.std.specs.Char.{digit_value, to_ascii_uppercase}
 use Rattle.std.specs.List.{AllZip, onto_first}
-use Rattle.std.specs.Prelude.{MatchOption, filter, reverse}
+use Rattle.std.specs.Prelude.{◌/◌, ◌%◌, MatchOption, filter, reverse, slice_index, take, bytes_eq}
 use Rattle.rds_block.specs.declared.group.Group.{Group}
-use Rattle.rds_fields.specs.TagGroup.{exchanged_in}
-use Rattle.rds_lines.specs.LineSays.{LineSays}
-use Rattle.rds_lines.specs.LogLines.{AreLines, IsLine, Line, text_of}
+use Rattle.rds_block.specs.Words.{second_word_of}
+use Rattle.rds_fields.specs.TagGroup.{exchanged, exchanged_in}
+use Rattle.rds_io.specs.Digits.{HasWord, upper_digit, word_digits}
+use Rattle.rds_lines.specs.LineSays.{IsLaidOut, LineSays, SaysSlot}
+use Rattle.rds_lines.specs.LogLines.{AreLines, IsLine, Line, content_length, text_of}
 use Rattle.rds_lines.specs.LogSlots.{AreSlots, IsLogOf}
 use Rattle.rds_lines.specs.OneLog.{same_said}
 use Rattle.rds_lines.specs.declared.log_line.LogLine.TheVariants.{Skip, Slot}
@@ -22,9 +25,8 @@ use Rattle.rds_lines.proofs.Cutting.{content_near}
 use Rattle.rds_log.specs.declared.audit_log.Auditing.{Auditing}
 use Rattle.rds_safety.specs.Late.{HasEntry, IsHeardLate, IsOfItsOrigin}
 use Rattle.rds_safety.proofs.Entries.{before_end}
-use Rattle.rds_wire.specs.Headline.{Reaches, is_slot, lines, slots}
+use Rattle.rds_wire.specs.Headline.{Reaches, blocks, is_group, is_slot, lines, slots}
 use Rattle.rds_wire.specs.Received.{IsReceived, first_entries, own_group}
-use Rattle.rds_wire.proofs.Logs.{dashes}
 use Rattle.rds_wire.proofs.Receiving.{entry_in_first, entry_left, zip_long}
 use Rattle.rds_wire.proofs.Twice.{entry_of_map}
 use Rattle.rds_wire.proofs.Wired.{entry_at}
@@ -72,16 +74,26 @@ filter_reverse p (x ∷ xs) =
     by true = sym (reverse_onto (filter p xs) x [])
     by false = append-nil (reverse (filter p xs))
 
--- the lines of the slots
-slots_are : (text : List ℕ) (cut : List Line) → AreLines text cut → slots text ≡ reverse (filter is_slot cut)
+map_reverse : {X Y : Type 0} (f : X → Y) (xs : List X) → map f (reverse xs) ≡ reverse (map f xs)
+map_reverse f [] = refl
+map_reverse f (x ∷ xs) =
+    ap (map f) (reverse_onto xs x []) ∙ map-append f (reverse xs) (x ∷ [])
+    ∙ ap (λ l. l ++ f x ∷ []) (map_reverse f xs) ∙ sym (reverse_onto (map f xs) (f x) [])
+
+-- the blocks of the lines of the slots
+abbrev slots_of : List Line → List Line
+slots_of cut = map blocks (filter is_slot cut)
+
+slots_are : (text : List ℕ) (cut : List Line) → AreLines text cut → slots text ≡ reverse (slots_of cut)
 slots_are text cut (closed, begun, is, a, p, ends) =
-    ap slots is ∙ ap (filter is_slot) (lines_are closed begun a p) ∙ filter_reverse is_slot (begun ∷ closed)
+    ap slots is ∙ ap (λ l. map blocks (filter is_slot l)) (lines_are closed begun a p)
+    ∙ ap (map blocks) (filter_reverse is_slot (begun ∷ closed)) ∙ map_reverse blocks (filter is_slot (begun ∷ closed))
     ∙ ap reverse (by ends)
   where
     by : ((begun ≡ []) × (cut ≡ closed)) ⊎ ((begun ≢ []) × (cut ≡ begun ∷ closed))
-        → filter is_slot (begun ∷ closed) ≡ filter is_slot cut
+        → slots_of (begun ∷ closed) ≡ slots_of cut
     by (inl (empty, same)) = rw (empty, same) refl
-    by (inr (some, same)) = ap (filter is_slot) (sym same)
+    by (inr (some, same)) = ap slots_of (sym same)
 
 -- ---- an entry from the oldest on
 
@@ -94,7 +106,7 @@ get_before [] x t below = absurd (omega (arith, below))
 get_before (y ∷ xs) x zero below = refl
 get_before (y ∷ xs) x (suc t) below = get_before xs x t (omega (arith, below))
 
-get_of_entry : {X : Type 0} (xs : List X) (t : ℕ) (x : X) → HasEntry 0 xs t x → slice_get (reverse xs) t ≡ Some x
+pub get_of_entry : {X : Type 0} (xs : List X) (t : ℕ) (x : X) → HasEntry 0 xs t x → slice_get (reverse xs) t ≡ Some x
 get_of_entry [] t x has = absurd has
 get_of_entry (y ∷ xs) t x (inl (at, is)) =
     ap (λ l. slice_get l t) (reverse_onto xs y [])
@@ -121,9 +133,10 @@ entry_right R first _ _ t x all at = absurd all
 
 -- ---- the lines of the slots say the slots
 
--- the line says this slot
+-- the line says this slot, and its blocks are a group of the programme of their PI
 abbrev Says : ℕ → Line → Option Group → Type 0
 Says n line slot = (said : Option Group) × LineSays line (Slot said) × (slot ≡ exchanged_in n said)
+    × ((pi : ℕ) (g : Group) → said ≡ Some g → g.pi ≡ pi → is_group pi line ≡ true)
 
 first_byte : (line : Line) (said : Option Group) → LineSays line (Slot said)
     → (digit_value (get_or line 0 0) < 16) ⊎ (get_or line 0 0 ≡ 45)
@@ -146,17 +159,140 @@ skipped_line (b ∷ []) (inl empty) = grind (arith, nat_tests)
 skipped_line (b ∷ c ∷ rest) (inl empty) = absurd (omega (arith, empty, content_near (b ∷ c ∷ rest)))
 skipped_line (b ∷ rest) (inr mark) = grind (arith, nat_tests)
 
--- the lines of the slots say the slots
+-- ---- the blocks of a line say what it says
+
+same_digit : (c : ℕ) → digit_value (to_ascii_uppercase c) ≡ digit_value c
+same_digit c = grind (arith, nat_tests)
+
+digit_again : (c : ℕ) → digit_value c < 16 → upper_digit (digit_value c) ≡ to_ascii_uppercase c
+digit_again c is = grind (arith, nat_tests)
+
+-- a byte of the blocks
+block_at : (n i : ℕ) (line : Line) → i < n → i < length line
+    → slice_index (map to_ascii_uppercase (take n line)) i ≡ to_ascii_uppercase (slice_index line i)
+block_at zero i line below within = absurd (omega (arith, below))
+block_at (suc n) i [] below within = absurd (omega (arith, within))
+block_at (suc n) zero (b ∷ rest) below within = refl
+block_at (suc n) (suc i) (b ∷ rest) below within = block_at n i rest (omega (arith, below)) (omega (arith, within))
+
+-- the same 19 bytes, in capital letters
+abbrev AreCapitals : Line → Line → Type 0
+AreCapitals line other = (i : ℕ) → i < 19 → slice_index other i ≡ to_ascii_uppercase (slice_index line i)
+
+said_so : (line other : Line) (slot : Option Group) → AreCapitals line other → SaysSlot line slot
+    → SaysSlot other slot
+said_so line other slot same s = record {
+  a = s.a;
+  b = s.b;
+  c = s.c;
+  d = s.d;
+  first = grind (arith, same_digit, s.first, same 0, same 1, same 2, same 3);
+  second = grind (arith, same_digit, s.second, same 5, same 6, same 7, same 8);
+  third = grind (arith, same_digit, s.third, same 10, same 11, same 12, same 13);
+  fourth = grind (arith, same_digit, s.fourth, same 15, same 16, same 17, same 18);
+  carried = s.carried;
+}
+
+-- the words of a group
+says_words : (line : Line) (g : Group) → SaysSlot line (Some g)
+    → HasWord line 0 g.pi × HasWord line 5 (second_word_of g) × HasWord line 10 g.c × HasWord line 15 g.d
+says_words line g s = grind arith
+
+-- the last byte of the blocks is no carriage return
+last_byte : (line : Line) (said : Option Group) → SaysSlot line said
+    → (digit_value (slice_index line 18) < 16) ⊎ (slice_index line 18 ≡ 45)
+last_byte line said s = grind arith
+
+no_return : (c : ℕ) → (digit_value c < 16) ⊎ (c ≡ 45) → (to_ascii_uppercase c == 13) ≡ false
+no_return c is = grind (arith, nat_tests)
+
+no_dash : (c : ℕ) → digit_value c < 16 → (to_ascii_uppercase c == 45) ≡ false
+no_dash c is = grind (arith, nat_tests)
+
+first_four : (xs : List ℕ) → 4 ≤ length xs
+    → take 4 xs ≡ slice_index xs 0 ∷ slice_index xs 1 ∷ slice_index xs 2 ∷ slice_index xs 3 ∷ []
+first_four (a ∷ b ∷ c ∷ d ∷ rest) some = refl
+first_four _ some = absurd (omega (arith, some))
+
+module _ (line other : Line) (said : Option Group) (same : AreCapitals line other) (long : length other ≡ 19)
+    (says : LineSays line (Slot said)) where
+  laid : IsLaidOut other
+  laid =
+      let ends : (slice_index other 18 == 13) ≡ false =
+      ap (λ c. c == 13) (same 18 (omega arith)) ∙ no_return (slice_index line 18) (last_byte line said says.1) in
+      let content : content_length other ≡ 19 = rw (long, ends) refl in
+      record {
+        at_least = omega (arith, content);
+        spaces = record {
+          first = same 4 (omega arith) ∙ ap to_ascii_uppercase says.0.spaces.first;
+          second = same 9 (omega arith) ∙ ap to_ascii_uppercase says.0.spaces.second;
+          third = same 14 (omega arith) ∙ ap to_ascii_uppercase says.0.spaces.third;
+        };
+        ends = inl content;
+      }
+
+  -- the digits of a word are those of the line
+  word_is : (w : ℕ) → HasWord line 0 w → word_digits w ≡ take 4 other
+  word_is w h =
+      let a : w / 4096 ≡ digit_value (slice_index line 0) =
+      omega (arith, h.first, h.second, h.third, h.fourth, h.word) in
+      let b : w / 256 % 16 ≡ digit_value (slice_index line 1) =
+      omega (arith, h.first, h.second, h.third, h.fourth, h.word) in
+      let c : w / 16 % 16 ≡ digit_value (slice_index line 2) =
+      omega (arith, h.first, h.second, h.third, h.fourth, h.word) in
+      let d : w % 16 ≡ digit_value (slice_index line 3) =
+      omega (arith, h.first, h.second, h.third, h.fourth, h.word) in
+      let one : upper_digit (w / 4096) ≡ slice_index other 0 =
+      ap upper_digit a ∙ digit_again (slice_index line 0) h.first ∙ sym (same 0 (omega arith)) in
+      let two : upper_digit (w / 256 % 16) ≡ slice_index other 1 =
+      ap upper_digit b ∙ digit_again (slice_index line 1) h.second ∙ sym (same 1 (omega arith)) in
+      let three : upper_digit (w / 16 % 16) ≡ slice_index other 2 =
+      ap upper_digit c ∙ digit_again (slice_index line 2) h.third ∙ sym (same 2 (omega arith)) in
+      let four : upper_digit (w % 16) ≡ slice_index other 3 =
+      ap upper_digit d ∙ digit_again (slice_index line 3) h.fourth ∙ sym (same 3 (omega arith)) in
+      (λ i. one i ∷ two i ∷ three i ∷ four i ∷ []) ∙ sym (first_four other (omega (arith, long)))
+
+  -- so the first block of a group is its PI, and no other block is lost
+  own : (pi : ℕ) (g : Group) → said ≡ Some g → g.pi ≡ pi → is_group pi other ≡ true
+  own pi g some is =
+      let words = says_words line g (rw some at says.1) in
+      let first : bytes_eq (take 4 other) (word_digits pi) ≡ true =
+      (bytes_eq-Decides (take 4 other) (word_digits pi)).1 (sym (rw is at (word_is g.pi words.0))) in
+      let second : (slice_index other 5 == 45) ≡ false =
+      ap (λ c. c == 45) (same 5 (omega arith)) ∙ no_dash (slice_index line 5) words.1.first in
+      let third : (slice_index other 10 == 45) ≡ false =
+      ap (λ c. c == 45) (same 10 (omega arith)) ∙ no_dash (slice_index line 10) words.2.first in
+      let fourth : (slice_index other 15 == 45) ≡ false =
+      ap (λ c. c == 45) (same 15 (omega arith)) ∙ no_dash (slice_index line 15) words.3.first in
+      rw (first, second, third, fourth) refl
+
+content_within : (line : Line) → content_length line ≤ length line
+content_within line = grind arith
+
+blocks_say : (n : ℕ) (line : Line) (said : Option Group) → LineSays line (Slot said)
+    → Says n (blocks line) (exchanged_in n said)
+blocks_say n line said says =
+    let enough : 19 ≤ length line = omega (arith, says.0.at_least, content_within line) in
+    let long : length (blocks line) ≡ 19 =
+    length-map (take 19 line) to_ascii_uppercase ∙ length-take-le 19 line enough in
+    let same : AreCapitals line (blocks line) = λ i below. block_at 19 i line below (omega (arith, below, enough)) in (
+      said,
+      (laid line (blocks line) said same long says, said_so line (blocks line) said same says.1),
+      refl,
+      own line (blocks line) said same long says,
+    )
+
+-- the blocks of the lines of the slots say the slots
 said_by : (n : ℕ) (cut : List Line) (got : List (Option Group)) → AreSlots n cut got
-    → AllZip (Says n) (filter is_slot cut) got
+    → AllZip (Says n) (slots_of cut) got
 said_by n [] got none = subst (AllZip (Says n) []) (sym none) tt
 said_by n (line ∷ before) got (inl (says, rest)) =
     rw (skipped_line line says) (said_by n before got rest)
 said_by n (line ∷ before) got (inr (said, older, says, is, rest)) =
-    rw (slot_line line said says, is) ((said, says, refl), said_by n before older rest)
+    rw (slot_line line said says, is) (blocks_say n line said says, said_by n before older rest)
 
 same_says : (n : ℕ) (line : Line) (one other : Option Group) → Says n line one → Says n line other → one ≡ other
-same_says n line one other (said, says, is) (also, too, equal) =
+same_says n line one other (said, says, is, own) (also, too, equal, its) =
     let same = same_said line (Slot said) (Slot also) says too in
     grind arith
 
@@ -191,40 +327,49 @@ of_slot origin [] t s from = absurd from
 of_slot origin (None ∷ before) t s from = grind (arith, of_slot origin before t s, origins_long)
 of_slot origin (Some x ∷ before) t s from = grind (arith, of_slot origin before t s, origins_long)
 
-own_or_none : (pi : ℕ) (slot : Option Group) → (own_group pi slot ≡ None) ⊎ (own_group pi slot ≡ slot)
-own_or_none pi slot = grind arith
+-- a group that a receiver of the programme got is one of its groups
+got_own : (pi : ℕ) (slot : Option Group) (g : Group) → own_group pi slot ≡ Some g → (slot ≡ Some g) × (g.pi ≡ pi)
+got_own pi slot g is = grind (arith, nat_tests)
+
+-- the line of such a group is one of the programme
+of_another : (pi n : ℕ) (line : Line) (slot : Option Group) (g : Group) → Says n line slot → slot ≡ Some g → g.pi ≡ pi
+    → is_group pi line ≡ false → ⊥
+of_another pi n line slot g (None, says, is, own) some its none = absurd (cc)
+of_another pi n line slot g (Some h, says, is, own) some its none =
+    let e : Some (exchanged n h) ≡ Some g = sym is ∙ some in
+    let same : h.pi ≡ g.pi = grind arith in
+    let yes = own pi h refl (omega (arith, same, its)) in
+    absurd (cc)
 
 module _ (a : Auditing) (log received : List ℕ) (sent got : List (Option Group)) (log_cut cut : List Line)
     (log_is : AreLines log log_cut) (is : AreLines received cut) (log_says : AreSlots a.rtplus log_cut sent)
-    (says : AreSlots a.rtplus cut got) (reaches : Reaches a.late log received) where
+    (says : AreSlots a.rtplus cut got) (reaches : Reaches a.pi a.late log received) where
   -- the line of a slot that the receiver got
   line_of : (t : ℕ) (slot : Option Group) → HasEntry 0 got t slot
       → (line : Line) × (slice_get (slots received) t ≡ Some line) × Says a.rtplus line slot
   line_of t slot has =
-      let it = entry_left (Says a.rtplus) 0 (filter is_slot cut) got t slot (said_by a.rtplus cut got says) has in
-      (it.0, ap (λ l. slice_get l t) (slots_are received cut is) ∙ get_of_entry (filter is_slot cut) t it.0 it.1, it.2)
+      let it = entry_left (Says a.rtplus) 0 (slots_of cut) got t slot (said_by a.rtplus cut got says) has in
+      (it.0, ap (λ l. slice_get l t) (slots_are received cut is) ∙ get_of_entry (slots_of cut) t it.0 it.1, it.2)
 
   -- the slot of a line of the log
   slot_of_line : (s : ℕ) (line : Line) → slice_get (slots log) s ≡ Some line
       → (slot : Option Group) × HasEntry 0 sent s slot × Says a.rtplus line slot
   slot_of_line s line at =
-      entry_right (Says a.rtplus) 0 (filter is_slot log_cut) sent s line (said_by a.rtplus log_cut sent log_says)
-      (entry_of_get (filter is_slot log_cut) s line (ap (λ l. slice_get l s) (sym (slots_are log log_cut log_is)) ∙ at))
+      entry_right (Says a.rtplus) 0 (slots_of log_cut) sent s line (said_by a.rtplus log_cut sent log_says)
+      (entry_of_get (slots_of log_cut) s line (ap (λ l. slice_get l s) (sym (slots_are log log_cut log_is)) ∙ at))
 
   -- a group that was got was sent in its origin
-  was_sent : (t : ℕ) (slot : Option Group) (g : Group) → HasEntry 0 got t slot → slot ≡ Some g
+  was_sent : (t : ℕ) (slot : Option Group) (g : Group) → HasEntry 0 got t slot → slot ≡ Some g → g.pi ≡ a.pi
       → (s : ℕ) × (reaches.origin t ≡ Some s) × HasEntry 0 sent s (Some g)
-  was_sent t slot g has some =
+  was_sent t slot g has some own =
       let line = line_of t slot has in
       by (reaches.origin t) refl line.0 line.2 (reaches.each t line.0 line.1)
     where
       by : (from : Option ℕ) → reaches.origin t ≡ from → (line : Line) → Says a.rtplus line slot
-          → MatchOption from (line ≡ codes "---- ---- ---- ----")
+          → MatchOption from (is_group a.pi line ≡ false)
           (λ s. (slice_get (slots log) s ≡ Some line) × (s ≤ t) × (t ≤ s + a.late))
           → (s : ℕ) × (reaches.origin t ≡ Some s) × HasEntry 0 sent s (Some g)
-      by None from line said lost =
-          let none = same_says a.rtplus line slot None said (None, subst (λ l. LineSays l (Slot None)) (sym lost) dashes, refl) in
-          absurd (cc)
+      by None from line said lost = absurd (of_another a.pi a.rtplus line slot g said some own lost)
       by (Some s) from line said came =
           let it = slot_of_line s line came.0 in
           let same = same_says a.rtplus line slot it.0 said it.2 in
@@ -252,8 +397,8 @@ module _ (a : Auditing) (log received : List ℕ) (sent got : List (Option Group
       by (inr (origin, g)) =
           let some = g.1 in
           let it = got_in n t entry q in
-          let whole : it.0 ≡ Some g.0 = (let own = own_or_none a.pi it.0 in let e = it.2 in grind arith) in
-          let was = was_sent t it.0 g.0 it.1 whole in
+          let whole = got_own a.pi it.0 g.0 (sym it.2 ∙ some) in
+          let was = was_sent t it.0 g.0 it.1 whole.0 whole.1 in
           subst (λ o. IsOfItsOrigin sent o entry) (sym (origin ∙ was.1))
           (subst (HasEntry 0 sent was.0) (sym some) was.2)
 
@@ -263,7 +408,7 @@ module _ (a : Auditing) (log received : List ℕ) (sent got : List (Option Group
       let entry = entry_at (heard n) t of.1 in
       let it = got_in n t entry.0 entry.1 in
       let line = line_of t it.0 it.1 in
-      let came = subst (λ o. MatchOption o (line.0 ≡ codes "---- ---- ---- ----")
+      let came = subst (λ o. MatchOption o (is_group a.pi line.0 ≡ false)
       (λ s. (slice_get (slots log) s ≡ Some line.0) × (s ≤ t) × (t ≤ s + a.late))) of.0 (reaches.each t line.0 line.1) in
       (came.1, came.2)
 
@@ -288,12 +433,12 @@ module _ (a : Auditing) (log received : List ℕ) (sent got : List (Option Group
 pub slots_long : (n : ℕ) (text : List ℕ) (cut : List Line) (got : List (Option Group)) → AreLines text cut
     → AreSlots n cut got → length (slots text) ≡ length got
 slots_long n text cut got is says =
-    ap length (slots_are text cut is) ∙ length-reverse (filter is_slot cut)
-    ∙ zip_long (Says n) (filter is_slot cut) got (said_by n cut got says)
+    ap length (slots_are text cut is) ∙ length-reverse (slots_of cut)
+    ∙ zip_long (Says n) (slots_of cut) got (said_by n cut got says)
 
 -- what reaches a receiver is received
 pub reaches_is_received : (a : Auditing) (log received : List ℕ) (sent got : List (Option Group)) (cut : List Line)
-    → IsLogOf a.rtplus log sent → Reaches a.late log received → AreLines received cut → AreSlots a.rtplus cut got
+    → IsLogOf a.rtplus log sent → Reaches a.pi a.late log received → AreLines received cut → AreSlots a.rtplus cut got
     → (t : ℕ) → t < length (slots received) → IsReceived a log got t t
 reaches_is_received a log received sent got cut is reaches are says t below =
     let long = slots_long a.rtplus received cut got are says in
