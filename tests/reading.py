@@ -2,7 +2,8 @@
 """Follows names: which definitions a statement reaches. docs/proof/PROOFS.md has the lists, and test_trust compares them.
 
 usage: python3 tests/reading.py   prints the definitions of the headline by their files, how many they are, how many the
-                                  law of audits adds, and the files of the headline of a world
+                                  headline of audits adds, the same for the longer laws, and the files of the headline
+                                  of a world
 """
 import functools
 import os
@@ -13,11 +14,23 @@ USE = re.compile(r"^use Rattle\.(rds_\w+)\.specs\.([\w.]+?)(?:\.\{([^}]*)\}| as 
 # the kit's definitions of the records of a script
 CSV = re.compile(r"^use Rattle\.csv\.specs\.[\w.]+\.\{([^}]*)\}$", re.M)
 HEAD = re.compile(r"^(?:(?:abbrev|unfoldable|record|data) )*(?:pub )?(?:(?:abbrev|unfoldable|record|data) )?(\S+)")
-# the laws from bytes to bytes, of scripts and of audits
-WIRE = (("rds_wire/specs/Wire", "WhatIsEncodedIsSafeOnTheWire"),)
-AUDITS = (("rds_wire/specs/Wire", "WhatPassesIsSafeOnTheWire"),)
-# what the calls promise: the laws name it, and what it says is not needed to read them
+# the headlines of scripts and of audits, and what the calls promise: the statements name it, and what it says is not needed
+# to read them
+HEADLINE = (("rds_wire/specs/Headline", "Headline"),)
+AUDITS = (("rds_wire/specs/NothingNew", "NothingNew"),)
 PROMISED = {
+    ("rds_script/specs/Play", "ScriptWrites"): "`encode` writes this log for this script",
+    ("rds_log/specs/LogWrites", "LogWrites"): "`decode` writes this output for this log",
+    ("rds_charset/specs/ReadAs", "IsReadAs"): "a text in a script",
+    ("rds_charset/specs/Printed", "printed"): "the printed form of a text",
+    ("rds_script/specs/Rows", "AreNumbers"): "numbers in a script",
+    ("rds_view_lines/specs/Output", "class_name"): "the name of a class of tags, if it has one",
+    ("rds_log/specs/Audit", "WholePasses"): "`audit` says yes",
+}
+# the longer laws, and what they take as promised
+LONGER = (("rds_wire/specs/Wire", "WhatIsEncodedIsSafeOnTheWire"),)
+LONGER_AUDITS = (("rds_wire/specs/Wire", "WhatPassesIsSafeOnTheWire"),)
+LONGER_PROMISED = {
     ("rds_log/specs/LogWrites", "SlotsWrite"): "`decode` prints the changes of the views",
     ("rds_script/specs/Outcomes", "EventsWrite"): "`encode` writes the groups of the station",
     ("rds_log/specs/Audit", "WholePasses"): "`audit` says yes",
@@ -99,13 +112,13 @@ def files(found):
     return {source_of(at) if "/declared/" in at else f"{at}.antt" for at, _ in found}
 
 
-def by_file(found):
+def by_file(found, promised):
     """Returns the definitions as rows of a table, by their files, and how many definitions and lines they are. Types of
-    the sources do not count."""
+    the sources do not count, nor do the lines of what is promised."""
     rows, names = {}, {it for it in found if "/declared/" not in it[0]}
     for at, name in sorted(names):
         rows.setdefault(at, []).append(f"`{name}`")
-    lines = sum(len(module(at).texts.get(name, "").splitlines()) for at, name in names if (at, name) not in PROMISED)
+    lines = sum(len(module(at).texts.get(name, "").splitlines()) for at, name in names - set(promised))
     return [f"|{at.replace('/specs/', ' `specs/')}`|{', '.join(it)}|" for at, it in rows.items()], len(names), lines
 
 
@@ -115,12 +128,16 @@ def of_csv(found):
     return {it for of, name in texts for it in re.findall(r"\w+", of.texts.get(name, "")) if it in of.csv}
 
 
-def added_by_audits():
-    """Returns how many definitions the law of audits has beside those of the law of scripts."""
-    return by_file(closure(WIRE + AUDITS, PROMISED))[1] - by_file(closure(WIRE, PROMISED))[1]
+def counted(roots, more, promised):
+    """Returns the rows of what these roots reach, how many definitions and lines that is, and how many of both the other
+    roots add."""
+    rows, *sizes = by_file(closure(roots, promised), promised)
+    both = by_file(closure(roots + more, promised), promised)[1:]
+    return rows, tuple(sizes), tuple(it - own for it, own in zip(both, sizes))
 
 
 if __name__ == "__main__":
-    rows, definitions, lines = by_file(closure(WIRE, PROMISED))
-    print(*rows, f"{definitions} definitions, {lines} lines; {added_by_audits()} more for the law of audits",
-          *sorted(files(closure(WORLD))), sep="\n")
+    for law, *what in (("headline", HEADLINE, AUDITS, PROMISED), ("longer law", LONGER, LONGER_AUDITS, LONGER_PROMISED)):
+        rows, (definitions, lines), (more, more_lines) = counted(*what)
+        print(*rows, f"the {law}: {definitions} definitions, {lines} lines; of audits {more} and {more_lines} more", sep="\n")
+    print(*sorted(files(closure(WORLD))), sep="\n")

@@ -86,21 +86,29 @@ class Trust(Case):
         self.check("the clause", [it for it in source[int(number):body] if f"ensures {clause} " in it] != [], True)
         self.check("it is in that function", [it for it in source[int(number):body] if " fn " in it], [])
 
+    def test_the_page_has_the_headlines_of_scripts_and_of_audits(self):
+        """The files are there without their imports, in their order."""
+        top = text_of(PROOFS).split("## Break it yourself\n")[0]
+        shown = re.findall(r"^```text\n(.*?)^```$", top, re.M | re.S)
+        files = (text_of(f"crates/rds_wire/specs/{it}.antt") for it in ("Headline", "NothingNew"))
+        self.check("the files", shown, [re.sub(r"^use .*\n", "", it, flags=re.M) for it in files])
+
     def test_the_first_list_has_the_definitions_of_the_headline(self):
-        found = reading.closure(reading.WIRE, reading.PROMISED)
-        rows, definitions, lines = reading.by_file(found)
+        rows, (definitions, lines), (more, _) = reading.counted(reading.HEADLINE, reading.AUDITS, reading.PROMISED)
         text = section()
         flat = " ".join(text.split())
         self.check("the table", re.findall(r"^\|rds_.*$", text, re.M), rows)
         self.check("its size", re.findall(r"these (\d+) definitions, which have (\d+) lines", flat),
                    [(f"{definitions}", f"{lines}")])
-        self.check("what the law of audits adds", re.findall(r"adds (\d+) definitions", flat),
-                   [f"{reading.added_by_audits()}"])
-        named, = re.findall(r"of its `csv`, (.*?)\. ", text, re.S)
-        self.check("names of the kit's csv", set(re.findall(r"`(\w+)`", named)), reading.of_csv(found))
-        promised = {f"`{name}`" for _, name in reading.PROMISED}
-        said = set(re.findall(r"`\w+`", text.split("|File|")[0]))
-        self.check("promises that the page does not explain", promised - said, set())
+        self.check("what the headline of audits adds", re.findall(r"adds (\d+) definitions", flat), [f"{more}"])
+        named, = re.findall(r"of its `csv`, (.*?)\. ", flat)
+        self.check("names of the kit's csv", set(re.findall(r"`(\w+)`", named.split("script, ")[1])),
+                   reading.of_csv(reading.closure(reading.HEADLINE, reading.PROMISED)))
+
+    def test_the_page_says_who_promises_the_names_of_the_headline(self):
+        top = text_of(PROOFS).split("### The headline of audits\n")[0]
+        promised = reading.closure(reading.HEADLINE, reading.PROMISED) & set(reading.PROMISED)
+        self.check("rows", set(re.findall(r"^\|`(\w+)`\|", top, re.M)), {name for _, name in promised})
 
     def test_the_second_list_is_what_the_headline_of_a_world_reaches(self):
         reached, shown = reading.files(reading.closure(reading.WORLD)) | {STEP}, listed()

@@ -1,20 +1,21 @@
--- The headline of `encode` and `decode` in one file, from bytes to bytes. It says what two receivers of a log display, if
--- `encode` wrote the log for a script, and `decode` reads what reached each of them. The law `the_headline` proves it.
+-- The headline in one file, from bytes to bytes. `encode` writes the log of a station for a script. The log reaches two
+-- receivers, which lose slots of it and get groups late. `decode` writes what each of them displays. Then in each slot the
+-- two displays are safe (`IsSafe`, at the end of the file). The law `the_headline` proves it.
 --
 -- Notation. `f : A → B` is the type of f, and the line below it is its value. `(x : A) → P` says P of each x, and
--- `(x : A) × P` says P of some x. Between facts, `→` is "if .. then", `×` "and", `⊎` "or", `→ ⊥` "not"; `≡` is equality.
--- A record is true if all its fields are. Numbers (ℕ) count from 0. Bytes are numbers; `codes "A"` are the bytes of "A".
--- `[]` is the empty list, `x ∷ l` is x before l, and `++` joins lists. An `Option` is `None` or `Some x`; `MatchOption o P Q`
--- is P for `None` and `Q x` for `Some x`. `λ x. y` is a function, and `p.0` the first part of p.
+-- `(x : A) × P` of some x. Between facts, `→` is "if .. then", `×` "and", `⊎` "or", `→ ⊥` "not"; `≡` is equality. A record
+-- holds if all its fields do. Numbers (ℕ) and slots count from 0. Bytes are numbers; `codes "A"` are the bytes of "A". `[]`
+-- is the empty list, `x ∷ l` has x before l, and `++` joins lists. An `Option` is `None` or `Some x`: `MatchOption o P Q` is
+-- P for `None`, and `Q x` for `Some x`. `λ x. y` is a function. `p.0` and `p.1` are the parts of a pair.
 --
--- Premises. `encode` reads its script to the end, and `decode` each received log. Both have the same `--pi` and M, and
--- RT+ tags in groups 11A. K is the `--k` of `encode`. `decode` has neither `--confirm` nor `--why`. Each slot of the log is
--- a slot of each received log, in which it is lost or not: so both receivers count the slots of the station.
+-- Premises. `encode` and `decode` run to the end of their input, with the same PI and the same M. K is the `--k` of
+-- `encode`. RT+ tags are in groups 11A. `decode` has neither `--confirm` nor `--why`. A receiver counts each slot of the
+-- station, also one that it loses.
 --
--- Six names come from other crates, where the calls promise them:
+-- These names come from other crates, where the calls promise what they say:
 --   ScriptWrites   `encode` reads this script to its end, and writes this log (rds_script `encode`)
 --   LogWrites      `decode` reads this log to its end, and writes this output (rds_log `decode`)
---   IsReadAs       a script spells a text so, and `printed` is its form in the output (rds_charset)
+--   IsReadAs       a script spells these bytes so, and `printed` is their form in the output (rds_charset)
 --   AreNumbers     a script spells these numbers so (rds_script)
 --   class_name, name_or_number   the output names the class of a tag so, for example ITEM.TITLE (rds_view_lines)
 use Rattle.std.specs.Prelude.{◌≡◌, ◌≢◌, ◌⊎◌, ◌<◌, ◌≤◌, ◌+◌, ◌-◌, ◌*◌, ◌^◌, ◌++◌, ◌==◌, ◌&&◌, ◌||◌, [], ◌∷◌, ℕ}
@@ -43,8 +44,8 @@ use Rattle.rds_wire.specs.Wire.{IsHead, station_of}
 abbrev pub lines : List ℕ → List (List ℕ)
 lines bytes = slice_split (λ b. b == 10) bytes
 
--- whether a line has a slot: it is not empty, and no comment (which begins with #, % or <). A line that begins with a
--- carriage return is empty
+-- whether a line is that of a slot: it is not empty, and no comment (which begins with #, % or <). A line that begins
+-- with a carriage return is empty
 abbrev pub is_slot : List ℕ → Bool
 is_slot [] = false
 is_slot (first ∷ rest) = not (first == 35 || (first == 37 || (first == 60 || first == 13)))
@@ -63,8 +64,8 @@ abbrev pub is_group : ℕ → List ℕ → Bool
 is_group pi slot = bytes_eq (take 4 slot) (word_digits pi)
     && not (slice_index slot 5 == 45 || (slice_index slot 10 == 45 || slice_index slot 15 == 45))
 
--- the log reaches a receiver so: each slot of the received log has no group of the programme, or it has the blocks of a
--- slot of the log, at most k slots late. The receiver gets them in the order of the log, and each of them once
+-- the log reaches a receiver so: in each slot it gets no group of the programme, or what the log has in this slot or at
+-- most k slots before. It gets this in the order of the log, and nothing twice
 pub record Reaches (pi k : ℕ) (log received : List ℕ) : Type 0 where
   pub origin : ℕ → Option ℕ
   pub each : (t : ℕ) (slot : List ℕ) → slice_get (slots received) t ≡ Some slot
@@ -75,16 +76,19 @@ pub record Reaches (pi k : ℕ) (log received : List ℕ) : Type 0 where
 
 -- ---- a script, and what it has on air
 
--- a row, as its fields: a word, for example `text`, then its argument. Row n of a script is that of slot n
+-- a row, as its fields: a word, for example `text`, then its argument
 abbrev pub Row : Type 0
 Row = List (List ℕ)
 
+-- the rows of a script, as `csv` reads them: row n is that of slot n
 abbrev pub rows : List ℕ → List Row
 rows script = records default_config (strip_bom script)
 
+-- whether the row begins with this word
 abbrev pub has_word : List ℕ → Row → Bool
 has_word word row = bytes_eq (slice_index_or row 0 []) word
 
+-- the argument of the row
 abbrev pub argument_of : Row → List ℕ
 argument_of row = slice_index_or row 1 []
 
@@ -122,7 +126,7 @@ air_in word d script slot = air word d (reverse (take (slot + 1) (rows script)))
 abbrev pub filled : List ℕ → List ℕ → List ℕ
 filled word given = if bytes_eq word (codes "name") then given ++ replicate (8 - length given) 32 else given
 
--- at the end of this slot, number k is on air, and it is printed so
+-- at the end of this slot, text or name number k is on air, and it is printed so
 pub record OnAir (word : List ℕ) (d : ℕ) (script : List ℕ) (slot : ℕ) (shown : List ℕ) (k : ℕ) : Type 0 where
   pub start : ℕ
   pub argument : List ℕ
@@ -132,7 +136,7 @@ pub record OnAir (word : List ℕ) (d : ℕ) (script : List ℕ) (slot : ℕ) (s
   pub read : IsReadAs argument given
   pub is : shown ≡ printed (filled word given)
 
--- it was so in one of the last n slots up to slot t
+-- it was on air in one of the last n slots up to slot t
 pub record WasOnAir (word : List ℕ) (d n t : ℕ) (script shown : List ℕ) (k : ℕ) : Type 0 where
   pub slot : ℕ
   pub past : slot ≤ t
@@ -145,6 +149,7 @@ pub record WasOnAir (word : List ℕ) (d n t : ℕ) (script shown : List ℕ) (k
 abbrev pub EndsIn : List ℕ → TagFields → Type 0
 EndsIn given tag = (tag.class ≡ 0) ⊎ (tag.start + tag.extra < length given)
 
+-- a text as the output shows it
 abbrev pub in_quotes : List ℕ → List ℕ
 in_quotes shown = codes " \"" ++ (shown ++ codes "\"")
 
@@ -154,7 +159,7 @@ tag_shown given tag = codes " " ++ (name_or_number (class_name tag.class) tag.cl
     ++ in_quotes (printed (take (tag.extra + 1) (drop tag.start given))))
 
 -- the station accepted a row of tags in a slot up to t, when text number k was on air: both tags end in this text. The
--- text began at least d slots before slot t. One of the two tags is shown so
+-- text began at least d slots before slot t. The first or the second of the tags is shown so
 pub record WentWith (word : List ℕ) (d t : ℕ) (script text content : List ℕ) (k : ℕ) : Type 0 where
   pub slot : ℕ
   pub past : slot ≤ t
@@ -193,8 +198,9 @@ pub record Receiver (pi m k : ℕ) (log : List ℕ) : Type 0 where
   pub reaches : Reaches pi k log received
   pub decodes : LogWrites (plain pi m) received output
 
--- what two outputs display in slot t was on air in one of the last d slots. Their texts are one text, or two that follow
--- each other; names likewise. A tag went with the text beside it
+-- what two receivers display in slot t is safe. Each text was on air in one of the last d slots, and the two are one text,
+-- or two that follow each other; names likewise. Each tag went with the text beside it. (If only one receiver displays a
+-- text, take it twice)
 pub record IsSafe (d t : ℕ) (script one other : List ℕ) : Type 0 where
   pub values : (word shown other_shown : List ℕ) → (word ≡ codes "text") ⊎ (word ≡ codes "name")
       → Displays one t word (in_quotes shown) → Displays other t word (in_quotes other_shown)
@@ -204,7 +210,7 @@ pub record IsSafe (d t : ℕ) (script one other : List ℕ) : Type 0 where
       → Displays one t (codes "text") (in_quotes text) → Displays one t word content → content ≢ codes " none"
       → (k : ℕ) × WasOnAir (codes "text") d d t script text k × WentWith word d t script text content k
 
--- whatever two receivers of the log of a script display in a slot is safe
+-- whatever two receivers of the log of a script display in a slot is safe, for d = M + K
 abbrev pub Headline : Type 0
 Headline =
     (head : Head) (m k : ℕ) (script log : List ℕ) → IsHead head → 0 < m
