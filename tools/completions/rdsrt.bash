@@ -4,7 +4,7 @@ _rdsrt() {
     COMPREPLY=()
     # the value of an option
     case $before in
-        --pi | --m | -m | --confirm | --k | -k | --pty | --grain | --lose) return ;;
+        --pi | --m | -m | --confirm | --keep | --k | -k | --pty | --grain | --lose) return ;;
         --rtplus) mapfile -t COMPREPLY < <(compgen -W '5A 6A 7A 8A 9A 11A 12A 13A' -- "$word") && return ;;
     esac
     for it in "${COMP_WORDS[@]:1:COMP_CWORD-1}"; do
@@ -13,7 +13,7 @@ _rdsrt() {
     case $command in
         '') offered='decode audit witness slots encode sim help --help --version' ;;
         help) offered='decode audit witness slots encode sim help' ;;
-        decode) offered='--pi --m --rtplus --confirm --why --quiet --json-notes --help' ;;
+        decode) offered='--pi --m --rtplus --confirm --why --keep --quiet --json-notes --help' ;;
         witness) offered='--pi --m --rtplus --lose --flag-alone --quiet --json-notes --help' ;;
         audit) offered='--pi --m --rtplus --k --running --padded --all --quiet --json-notes --help' ;;
         slots) offered='--pi --grain --m --quiet --json-notes --help' ;;

@@ -132,9 +132,17 @@ confirm_rule = record (new_rule (codes "confirm")) {
   parser = Some (Signed (pos 2) (pos 255));
 }
 
+-- `--keep SLOTS`, from 0 to 65535
+abbrev pub keep_rule : Rule
+keep_rule = number_rule (codes "keep") (Signed (pos 0) (pos 65535)) (codes "0")
+
+-- a subcommand that shows what a receiver of a log shows
+unfoldable pub shown_app : Text → App
+shown_app name = with_rule (with_rule (log_app name) confirm_rule) why_rule
+
 -- the subcommand that decodes a log
 unfoldable pub decode_app : Text → App
-decode_app name = with_rule (with_rule (log_app name) confirm_rule) why_rule
+decode_app name = with_rule (shown_app name) keep_rule
 
 -- a subcommand that takes `--k`
 unfoldable pub late_app : Text → App
@@ -264,6 +272,10 @@ flag_alone_in = flag_in (codes "flag-alone")
 abbrev pub why_in : List Row → Bool
 why_in = flag_in (codes "why")
 
+-- for how many slots a display keeps a text and a name
+abbrev pub keep_in : List Row → Option ℕ
+keep_in = option_number 0 65535 (codes "keep")
+
 -- an option has a value
 abbrev pub has_value : Text → List Row → Bool
 has_value name rows = is_some (first_of name rows)
@@ -298,7 +310,8 @@ with_station task rows = option_and_then (λ programme. option_map (task program
 
 abbrev pub task_in : Text → List Row → Option Task
 task_in name rows =
-    if bytes_eq name (codes "decode") then option_map (λ window. Decode window (why_in rows)) (window_in rows)
+    if bytes_eq name (codes "decode")
+    then option_and_then (λ window. option_map (Decode window (why_in rows)) (keep_in rows)) (window_in rows)
     else if bytes_eq name (codes "encode") then with_station Encode rows
     else if bytes_eq name (codes "sim")
     then option_and_then

@@ -2,7 +2,7 @@
 use Rattle.std.specs.Prelude.{◌≡◌, ◌==◌, ◌∷◌, ℕ, Bool, List, [], None, Some, codes, false, true, if◌then◌else◌}
 use Rattle.clap.specs.Words.{Text, fault_of}
 use Rattle.clap.specs.declared.error.kind.ErrorKind.TheVariants.{DisplayHelp, InvalidSubcommand}
-use Rattle.rds_cli.specs.CommandLine.{AreRefused, Requested, whole_app}
+use Rattle.rds_cli.specs.CommandLine.{AreRefused, Requested, default_dwell, whole_app}
 use Rattle.rds_cli.specs.declared.request.Task.TheVariants.{Audit, Decode, Encode, Lose, Simulate, Slots, Witness}
 
 abbrev pub in_front : ℕ → List Text → List Text
@@ -23,17 +23,22 @@ abbrev pub CallForHelp : List Text → Type 0
 CallForHelp words = fault_of whole_app words ≡ DisplayHelp ∷ InvalidSubcommand ∷ []
 
 abbrev pub decoding : Text → ℕ → Requested
-decoding pi dwell = record { task = Decode None false; pi = pi; rtplus = 11; lose = []; dwell = dwell; file = None }
+decoding pi dwell = record { task = Decode None false 0; pi = pi; rtplus = 11; lose = []; dwell = dwell; file = None }
 
 -- the same of what was heard twice within a window
 abbrev pub confirming : ℕ → ℕ → Requested
 confirming dwell window =
-    record { task = Decode (Some window) false; pi = codes "C201"; rtplus = 11; lose = []; dwell = dwell; file = None }
+    record { task = Decode (Some window) false 0; pi = codes "C201"; rtplus = 11; lose = []; dwell = dwell; file = None }
 
 -- the same with reasons, without a window
 abbrev pub decoding_why : ℕ → Requested
 decoding_why dwell =
-    record { task = Decode None true; pi = codes "C201"; rtplus = 11; lose = []; dwell = dwell; file = None }
+    record { task = Decode None true 0; pi = codes "C201"; rtplus = 11; lose = []; dwell = dwell; file = None }
+
+-- the same for a display that keeps a text and a name
+abbrev pub decoding_kept : ℕ → Requested
+decoding_kept keep =
+    record { task = Decode None false keep; pi = codes "C201"; rtplus = 11; lose = []; dwell = default_dwell; file = None }
 
 abbrev pub encoding : ℕ → ℕ → Requested
 encoding dwell pty =

@@ -2,9 +2,9 @@
 ghost use Rattle.std.specs.Prelude.{◌≡◌, IfOk, codes, false};
 ghost use Rattle.clap.specs.Words.{App, app_of, new_app, rule_of, with_rule, with_subcommand};
 ghost use Rattle.clap.specs.declared.builder.command.Command.TheViews.{out-Command};
-ghost use Rattle.rds_cli.specs.CommandLine.{audit_app, confirm_rule, decode_app, dwell_rule, file_rule};
+ghost use Rattle.rds_cli.specs.CommandLine.{audit_app, confirm_rule, decode_app, dwell_rule, file_rule, shown_app};
 ghost use Rattle.rds_cli.specs.CommandLine.{all_rule, flag_alone_rule, flag_rule, grain_rule, judging_app, late_app};
-ghost use Rattle.rds_cli.specs.CommandLine.{json_notes_rule, late_rule, log_app, number_rule, own_pi_rule};
+ghost use Rattle.rds_cli.specs.CommandLine.{json_notes_rule, keep_rule, late_rule, log_app, number_rule, own_pi_rule};
 ghost use Rattle.rds_cli.specs.CommandLine.{padded_rule, pi_rule, pty_rule, quiet_rule, running_rule};
 ghost use Rattle.rds_cli.specs.CommandLine.{sim_app, slots_app, station_app, timed_app, top_app, tp_rule};
 ghost use Rattle.rds_cli.specs.CommandLine.{lose_rule, rtplus_rule, whole_app, why_rule, witness_app};
@@ -277,6 +277,21 @@ fn why<'a>(alloc: Global) -> Arg<'a>
     )
 }
 
+/// Makes the option `--keep`.
+fn keep<'a>(alloc: Global) -> Arg<'a>
+    ensures rule { rule_of result ≡ keep_rule }
+    ensures local { result.global ≡ false }
+{
+    let parser = value_parser!(u16).range(0..65536);
+    let help = "Keeps a text or a name on the display for N more slots, 0 to 65535";
+    number(alloc, "keep", parser, "0", help).long_help(
+        "Keeps a text or a name on the display for N more slots, 0 to 65535, after the receiver\n\
+         dropped it. A text keeps its tags. It goes earlier if the receiver shows another one,\n\
+         or if a segment with the other A/B flag comes. So a text may be old, but it is no mix:\n\
+         it was on air in the last M + K + N slots. A minute has 685 slots.",
+    )
+}
+
 /// Makes the flag `--quiet`. Help lists it after the other options.
 fn quiet<'a>(alloc: Global) -> Arg<'a>
     ensures rule { rule_of result ≡ quiet_rule }
@@ -374,7 +389,16 @@ fn decode<'a>(alloc: Global) -> Result<Command<'a>, AllocError>
                    $ echo C201 2140 4849 0D20 | rdsrt decode --pi C201\n  \
                    0 text \"HI\"",
     };
-    log_reader(alloc, "decode", page)?
+    shown_reader(alloc, "decode", page)?.arg(keep(alloc))
+}
+
+/// Makes a subcommand that shows what a receiver of a log shows.
+#[tactic(auto, unfolding(crate::specs::CommandLine::shown_app))]
+fn shown_reader<'a>(alloc: Global, name: &'a str, page: Page<'a>) -> Result<Command<'a>, AllocError>
+    ensures app { IfOk result (λ c. app_of c ≡ shown_app name.entry.now) }
+    ensures local { IfOk result (λ c. (out-Command c).has_globals ≡ false) }
+{
+    log_reader(alloc, name, page)?
         .arg(confirm(alloc))?
         .arg(why(alloc))
 }

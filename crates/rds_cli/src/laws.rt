@@ -3,7 +3,7 @@ ghost use Rattle.std.specs.Prelude.{[], codes, false, true};
 ghost use Rattle.rds_cli.specs.CommandLine.{AskFor, AskForHelp, default_dwell};
 ghost use Rattle.rds_cli.specs.Examples.{AreNotTaken, CallForHelp, auditing, auditing_padded};
 ghost use Rattle.rds_cli.specs.Examples.{auditing_running, confirming, decoding};
-ghost use Rattle.rds_cli.specs.Examples.{decoding_why, encoding, filling, filling_one, from_file, listing_running};
+ghost use Rattle.rds_cli.specs.Examples.{decoding_kept, decoding_why, encoding, filling, filling_one, from_file, listing_running};
 ghost use Rattle.rds_cli.specs.Examples.{losing, simulating, simulating_flag_alone};
 ghost use Rattle.rds_cli.specs.Examples.{simulating_confirmed, tagged_in, typed};
 ghost use Rattle.rds_cli.specs.Examples.{witnessing};
@@ -62,6 +62,9 @@ pub fn words_of_the_examples()
         (from_file (codes "--m.log") (filling default_dwell 20)) }
     ensures two_files { AreNotTaken (typed (codes "rdsrt decode --pi C201 one.log two.log")) }
     ensures decode_why { AskFor (typed (codes "rdsrt decode --pi C201 --m 8 --why")) (decoding_why 8) }
+    ensures decode_keep { AskFor (typed (codes "rdsrt decode --pi C201 --keep 685")) (decoding_kept 685) }
+    ensures long_keep { AreNotTaken (typed (codes "rdsrt decode --pi C201 --keep 65536")) }
+    ensures audit_keep { AreNotTaken (typed (codes "rdsrt audit --pi C201 --keep 685")) }
     ensures audit_why { AreNotTaken (typed (codes "rdsrt audit --pi C201 --why")) }
     ensures small_window { AreNotTaken (typed (codes "rdsrt decode --pi C201 --confirm 1")) }
     ensures large_window { AreNotTaken (typed (codes "rdsrt decode --pi C201 --confirm 256")) }

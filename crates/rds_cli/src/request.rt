@@ -4,7 +4,7 @@ ghost use Rattle.clap.specs.Words.{FailsBy, fault_of, found_of, kind_of, rows_of
 ghost use Rattle.rds_cli.specs.Asks.{ReadAs, asked_by};
 ghost use Rattle.rds_cli.specs.CommandLine.{AreRefused, AskForHelp, IsPi, TakesWords, asked_in, asked_of};
 ghost use Rattle.rds_cli.specs.CommandLine.{file_in, flag_in, group_named};
-ghost use Rattle.rds_cli.specs.CommandLine.{has_value, is_shown, lose_in, pi_in};
+ghost use Rattle.rds_cli.specs.CommandLine.{has_value, is_shown, keep_in, lose_in, pi_in};
 ghost use Rattle.rds_cli.specs.CommandLine.{programme_in, option_number, rtplus_in};
 ghost use Rattle.rds_cli.specs.CommandLine.{task_in, whole_app, window_in, witness_in};
 
@@ -35,6 +35,8 @@ pub enum Task {
         window: Option<Window>,
         /// Whether the line of a text or a name that is not shown any more says why.
         says_why: bool,
+        /// For how many slots the display keeps a text and a name that the receiver does not show any more.
+        keep: u16,
     },
     /// Print the groups that a station sends.
     Encode(Programme, Late),
@@ -181,6 +183,7 @@ fn task_of(name: &str, inner: &ArgMatches<'_>) -> Option<Task>
         "decode" => Some(Task::Decode {
             window: window_of(inner)?,
             says_why: is_given(inner, "why"),
+            keep: keep_of(inner)?,
         }),
         "encode" => Some(Task::Encode(programme_of(inner)?, slots_of(inner, "k")?)),
         "sim" => {
@@ -290,6 +293,14 @@ fn window_of(inner: &ArgMatches<'_>) -> Option<Option<Window>>
         return Some(None);
     }
     Some(Some(slots_of(inner, "confirm")?))
+}
+
+/// Reads for how many slots a display keeps a text and a name.
+fn keep_of(inner: &ArgMatches<'_>) -> Option<u16>
+    ensures { result ≡ keep_in (rows_of (found_of inner.now)) }
+{
+    let slots: Bounded<0, 65535> = slots_of(inner, "keep")?;
+    Some(slots.get())
 }
 
 /// Reads the number of an option that has to be below `N`. `None` if it is not.

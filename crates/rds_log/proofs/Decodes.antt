@@ -1,18 +1,24 @@
 -- What the taker of `decode` takes, and what it has written at the end of a log.
 use Rattle.std.proofs.Common.{◌≡◌, ◌+◌, ◌++◌, ℕ, Bool, true, false, List, [], ◌∷◌, None, Option, Some, refl, ◌∙◌, arith}
-use Rattle.std.proofs.Common.{ap, inl, inr, Result, sym, ◌<◌, Ok, Err}
+use Rattle.std.proofs.Common.{ap, ap₂, inl, inr, Result, subst, sym, ◌<◌, Ok, Err}
 use Rattle.std.proofs.lemmas.List.{append-nil}
 use Rattle.rds_block.specs.declared.group.Group.{Group}
+use Rattle.rds_receiver.specs.Confirmed.{counted}
+use Rattle.rds_receiver.specs.Counts.{CountsOf, after_slot}
+use Rattle.rds_receiver.specs.Kept.{AreShowings, GoesOn, IsShowing, Showing, displayed, newest_showing}
 use Rattle.rds_receiver.specs.NotShown.{whys_of}
 use Rattle.rds_receiver.specs.Receipts.{Tuning, heard_of}
 use Rattle.rds_receiver.specs.Shown.{IsView, ShownView}
 use Rattle.rds_receiver.specs.ReceiverAt.{ReceiverAt}
+use Rattle.rds_receiver.specs.declared.keeping.Keeping.{Keeping}
+use Rattle.rds_receiver.specs.declared.keeping.Kept.{Kept}
 use Rattle.rds_receiver.specs.declared.why.Whys.{Whys}
-use Rattle.rds_view_lines.specs.NoChange.{no_change, view_of_none}
-use Rattle.rds_view_lines.specs.Output.{Display, change, newest, slot_prefix, changes_of}
+use Rattle.rds_receiver.proofs.Counting.{newest_is, same_showings, showing_with}
+use Rattle.rds_view_lines.specs.NoChange.{no_change}
+use Rattle.rds_view_lines.specs.Output.{Display, change, slot_prefix, changes_of}
 use Rattle.rds_log.specs.LogWrites.{AreDisplays, IsDisplay, SayWhys, LinesWrite, tuning_of, LogWrites}
 use Rattle.rds_view_lines.specs.KeptView.{view_kept}
-use Rattle.rds_log.specs.Inside.ViewLines.{ViewsStandAt, GivesChange}
+use Rattle.rds_log.specs.Inside.ViewLines.{ViewsStandAt, GivesChange, ShowsChange}
 use Rattle.rds_log.specs.declared.decoder.ViewLines.{ViewLines}
 use Rattle.rds_fields.specs.TagGroup.{exchanged_in}
 use Rattle.rds_io.specs.Told.{Traffic}
@@ -23,10 +29,8 @@ use Rattle.rds_lines.specs.LineSays.{LineSays}
 use Rattle.rds_log.specs.Inside.Decoder.{HasDecoded}
 use Rattle.rds_lines.specs.Outputs.{HasTaken, Runs}
 use Rattle.rds_log.specs.declared.decode_log.Decoding.{Decoding}
-use Rattle.rds_log.specs.declared.decoder.Decoder.{Decoder}
 use Rattle.rds_io.specs.declared.fault.LogFault.{LogFault}
 use Rattle.rds_lines.specs.declared.log_line.LogLine.TheVariants.{Skip, Slot}
-use Rattle.rds_receiver.specs.OneView.{same_view}
 use Rattle.rds_io.specs.Alike.{WriteAlike}
 use Rattle.rds_lines.specs.OneLog.{same_lines, same_slots}
 use Rattle.rds_lines.proofs.Runs.{read_whole}
@@ -46,105 +50,153 @@ use Rattle.rds_log.specs.declared.audit_log.Stop.TheVariants.{FirstFault, LogEnd
 -- ---- how the displays and their changes go on by a slot
 
 -- a slot that was handled: its display, and the changes that it appends
-pub slot_given : (why : Bool) (t : Tuning) (v after : ViewLines) (slots : List (Option Group))
-    (written before now : List ℕ) (group : Option Group) (display : Display) (s : ViewsStandAt why t v slots written)
-    → ReceiverAt t after.receiver (group ∷ slots) → IsDisplay why t (group ∷ slots) display
-    → after.says_why ≡ v.says_why → after.slot ≡ v.slot + 1 → view_kept after.shown ≡ display.view
-    → now ≡ before ++ change (slot_prefix v.slot) display.whys (view_kept v.shown) display.view
-    → (added : List ℕ) × (now ≡ before ++ added) × ViewsStandAt why t after (group ∷ slots) (written ++ added)
-slot_given why t v after slots written before now group display s receiver is says slot shown gave = (
-  _,
-  gave,
-  record {
-    receiver = receiver;
-    says_why = says ∙ s.says_why;
-    displays = display ∷ s.displays;
-    are = (is, s.are);
-    slot = omega (arith, s.slot);
-    shown = shown;
-    changes = (let number = s.slot in let view = s.shown in let bytes = s.changes in cc);
-  },
-)
+pub slot_given : (keeps why : Bool) (n : ℕ) (t : Tuning) (v after : ViewLines) (slots : List (Option Group))
+    (written before now : List ℕ) (group : Option Group) (kept : Option Kept) (seen : Showing) (whys : Option Whys)
+    (s : ViewsStandAt keeps n why t v slots written) → ReceiverAt t after.receiver (group ∷ slots)
+    → IsShowing t.dwell t.first (counted t (heard_of t.programme (group ∷ slots))) seen
+    → (displayed n (seen ∷ s.showings) ≡ after_slot kept (displayed n s.showings) seen.view)
+    × (keeps ≡ true → CountsOf after.shown.keeping (seen ∷ s.showings))
+    → SayWhys why t (group ∷ slots) whys → after.says_why ≡ v.says_why → after.slot ≡ v.slot + 1
+    → after.shown.keeping.keep ≡ v.shown.keeping.keep
+    → view_kept after.shown.view ≡ after_slot kept (view_kept v.shown.view) seen.view
+    → now ≡ before ++ change (slot_prefix v.slot) whys (view_kept v.shown.view) (view_kept after.shown.view)
+    → (added : List ℕ) × (now ≡ before ++ added)
+    × ViewsStandAt keeps n why t after (group ∷ slots) (written ++ added)
+slot_given keeps why n t v after slots written before now group kept seen whys s receiver is shows say says slot keep
+    shown gave =
+    let here : view_kept after.shown.view ≡ displayed n (seen ∷ s.showings) =
+    (let was = s.shown in let newest = s.display in let next = shows.0 in grind (arith)) in (
+      _,
+      gave,
+      record {
+        receiver = receiver;
+        says_why = says ∙ s.says_why;
+        showings = seen ∷ s.showings;
+        heard = (is, s.heard);
+        keep = keep ∙ s.keep;
+        counts = shows.1;
+        none = s.none;
+        displays = record { view = displayed n (seen ∷ s.showings); whys = whys } ∷ s.displays;
+        are = (
+          record {
+            view = record { showings = seen ∷ s.showings; are = (is, s.heard); shows = refl };
+            whys = say;
+          },
+          s.are,
+        );
+        slot = omega (arith, s.slot);
+        display = refl;
+        shown = here;
+        changes = (let number = s.slot in let view = s.shown in let bytes = s.changes in cc);
+      },
+    )
 
-pub newest_view : (why : Bool) (t : Tuning) (slots : List (Option Group)) (displays : List Display)
-    → AreDisplays why t slots displays → IsView t slots (newest displays)
-newest_view why t [] [] are = view_of_none t
-newest_view why t (slot ∷ before) (display ∷ older) are = are.0.view
-newest_view why t _ _ are = absurd are
+-- the end of a slot that changed no view
+unchanged : (t : Tuning) (slots : List (Option Group)) (group : Option Group) (showings : List Showing)
+    → AreShowings t (heard_of t.programme slots) showings
+    → ((view : ShownView) → IsView t slots view → IsView t (group ∷ slots) view)
+    → IsShowing t.dwell t.first (counted t (heard_of t.programme (group ∷ slots)))
+    (showing_with t.dwell t.first (counted t (heard_of t.programme (group ∷ slots))) (newest_showing showings).view)
+unchanged t slots group showings are stays = record {
+  view = stays (newest_showing showings).view (newest_is t (heard_of t.programme slots) showings are).view;
+  text = refl;
+  name = refl;
+}
+
+-- what a slot changes on the display, and the counts after it
+pub shows_on : (keeps why : Bool) (n : ℕ) (t : Tuning) (v : ViewLines) (counts : Keeping)
+    (slots : List (Option Group)) (written : List ℕ) (group : Option Group) (kept : Option Kept) (is_changed : Bool)
+    (s : ViewsStandAt keeps n why t v slots written) (seen : Showing)
+    → IsShowing t.dwell t.first (counted t (heard_of t.programme (group ∷ slots))) seen
+    → (is_changed ≡ false → GoesOn (newest_showing s.showings) seen)
+    → ShowsChange keeps v.shown.keeping counts kept is_changed t (heard_of t.programme (group ∷ slots))
+    → (displayed n (seen ∷ s.showings) ≡ after_slot kept (displayed n s.showings) seen.view)
+    × (keeps ≡ true → CountsOf counts (seen ∷ s.showings))
+shows_on keeps why n t v counts slots written group kept is_changed s seen is goes shows =
+    subst (λ (m : ℕ). (displayed m (seen ∷ s.showings) ≡ after_slot kept (displayed m s.showings) seen.view)
+    × (keeps ≡ true → CountsOf counts (seen ∷ s.showings))) s.keep
+    (shows seen s.showings (is, s.heard) goes s.counts (λ e. s.keep ∙ s.none e))
 
 -- a slot has reasons, whether the lines say them or not
-some_whys : (why : Bool) (t : Tuning) (input : List (Option Group)) (view : ShownView) → IsView t input view
-    → (whys : Option Whys) × SayWhys why t input whys
-some_whys false t input view is = (None, refl)
-some_whys true t input view shows = (Some (whys_of t (heard_of t.programme input)), refl)
+some_whys : (why : Bool) (t : Tuning) (input : List (Option Group)) → (whys : Option Whys) × SayWhys why t input whys
+some_whys false t input = (None, refl)
+some_whys true t input = (Some (whys_of t (heard_of t.programme input)), refl)
 
 -- a slot that shows what the one before it showed
-pub slot_same : (why : Bool) (t : Tuning) (v after : ViewLines) (slots : List (Option Group)) (written before : List ℕ)
-    (group : Option Group) (s : ViewsStandAt why t v slots written)
+pub slot_same : (keeps why : Bool) (n : ℕ) (t : Tuning) (v after : ViewLines) (slots : List (Option Group))
+    (written before : List ℕ) (group : Option Group) (s : ViewsStandAt keeps n why t v slots written)
     → ReceiverAt t after.receiver (group ∷ slots)
     → ((view : ShownView) → IsView t slots view → IsView t (group ∷ slots) view)
-    → after.says_why ≡ v.says_why → after.slot ≡ v.slot + 1 → view_kept after.shown ≡ view_kept v.shown
-    → (added : List ℕ) × (before ≡ before ++ added) × ViewsStandAt why t after (group ∷ slots) (written ++ added)
-slot_same why t v after slots written before group s receiver stays says slot kept =
-    let is = stays (newest s.displays) (newest_view why t slots s.displays s.are) in
-    let (whys, say) = some_whys why t (group ∷ slots) (newest s.displays) is in
-    let none = no_change (slot_prefix v.slot) whys (newest s.displays) in
-    let view = s.shown in
-    slot_given why t v after slots written before before group (record { view = newest s.displays; whys = whys }) s
-    receiver (record { view = is; whys = say }) says slot (kept ∙ s.shown) (cc (append-nil before))
+    → ((seen : Showing)
+    → IsShowing t.dwell t.first (counted t (heard_of t.programme (group ∷ slots))) seen
+    → (displayed n (seen ∷ s.showings) ≡ displayed n s.showings)
+    × (keeps ≡ true → CountsOf after.shown.keeping (seen ∷ s.showings)))
+    → after.says_why ≡ v.says_why → after.slot ≡ v.slot + 1 → after.shown.keeping.keep ≡ v.shown.keeping.keep
+    → view_kept after.shown.view ≡ view_kept v.shown.view
+    → (added : List ℕ) × (before ≡ before ++ added)
+    × ViewsStandAt keeps n why t after (group ∷ slots) (written ++ added)
+slot_same keeps why n t v after slots written before group s receiver stays shows says slot keep same =
+    let is = unchanged t slots group s.showings s.heard stays in
+    let (whys, say) = some_whys why t (group ∷ slots) in
+    let none = no_change (slot_prefix v.slot) whys (view_kept v.shown.view) in
+    slot_given keeps why n t v after slots written before before group None _ whys s receiver is (shows _ is) say says
+    slot keep same (let shown = same in let nothing = append-nil before in cc)
 
 -- ---- what the taker of `decode` takes, and what it has written at the end of a log
 
 -- a line that is a slot
-pub takes_slot : (how : Decoding) (d after : Decoder) (w : Traffic) (before now : List ℕ) (lines : List Line)
-    (line : Line) (slot : Option Group) → LineSays line (Slot slot)
-    → GivesChange d.views after.views (exchanged_in d.rtplus slot) before now → after.rtplus ≡ d.rtplus
-    → HasTaken (HasDecoded how d) w before lines → HasTaken (HasDecoded how after) w now (line ∷ lines)
-takes_slot how d after w before now lines line slot says gives kept has =
-    let (added, output, views) = gives how.says_why (tuning_of how) has.took.slots has.total has.took.views in
+pub takes_slot : (keeps : Bool) (how : Decoding) (v after : ViewLines) (n m : ℕ) (w : Traffic) (before now : List ℕ)
+    (lines : List Line) (line : Line) (slot read : Option Group) → LineSays line (Slot slot)
+    → read ≡ exchanged_in n slot → GivesChange keeps v after read before now → m ≡ n
+    → HasTaken (HasDecoded keeps how v n) w before lines → HasTaken (HasDecoded keeps how after m) w now (line ∷ lines)
+takes_slot keeps how v after n m w before now lines line slot read says is gives kept has =
+    let (added, output, views) = gives how.keep how.says_why (tuning_of how) has.took.slots has.total has.took.views in
     record {
       total = _;
       took = record {
-        slots = exchanged_in d.rtplus slot ∷ has.took.slots;
+        slots = read ∷ has.took.slots;
         say = inr (
           slot,
           has.took.slots,
           says,
-          ap (λ (n : ℕ). exchanged_in n slot ∷ has.took.slots) has.took.rtplus,
+          (let same = has.took.same in cc is),
           has.took.say,
         );
-        rtplus = kept ∙ has.took.rtplus;
+        same = kept ∙ has.took.same;
         views = views;
       };
       waits = waits_more w before now has.total added has.waits output;
     }
 
 -- a line that is skipped
-pub takes_skip : (how : Decoding) (d after : Decoder) (w : Traffic) (output : List ℕ) (lines : List Line) (line : Line)
-    → LineSays line Skip → after.views ≡ d.views → after.rtplus ≡ d.rtplus
-    → HasTaken (HasDecoded how d) w output lines → HasTaken (HasDecoded how after) w output (line ∷ lines)
-takes_skip how d after w output lines line says views kept has = grind (arith)
+pub takes_skip : (keeps : Bool) (how : Decoding) (v after : ViewLines) (n m : ℕ) (w : Traffic) (output : List ℕ)
+    (lines : List Line) (line : Line) → LineSays line Skip → after ≡ v → m ≡ n
+    → HasTaken (HasDecoded keeps how v n) w output lines → HasTaken (HasDecoded keeps how after m) w output (line ∷ lines)
+takes_skip keeps how v after n m w output lines line says views kept has = grind (arith)
 
 -- the result of the run is that of `decode`
-pub decoded : (how : Decoding) (d : Decoder) (reads : ℕ) (r w : Traffic) (result : Result (Unit {0}) LogFault)
-    → Runs (LinesWrite how) (LinesWrite how) (HasDecoded how d) ⊥ reads r w result → Decodes how reads r w result
-decoded how d reads r w result stops = grind arith
+pub decoded : (keeps : Bool) (how : Decoding) (v : ViewLines) (n reads : ℕ) (r w : Traffic)
+    (result : Result (Unit {0}) LogFault) → Runs (LinesWrite how) (LinesWrite how) (HasDecoded keeps how v n) ⊥ reads r w result
+    → Decodes how reads r w result
+decoded keeps how v n reads r w result stops = grind arith
 
 -- ---- slots have one list of displays, so the bytes of a log write one output
 
 -- an input has one display
-same_display : (why : Bool) (t : Tuning) (input : List (Option Group)) (d e : Display) → IsDisplay why t input d
-    → IsDisplay why t input e → d ≡ e
-same_display why t input d e p q =
-    let view = same_view t input d.view e.view p.view q.view in
+same_display : (n : ℕ) (why : Bool) (t : Tuning) (input : List (Option Group)) (d e : Display)
+    → IsDisplay n why t input d → IsDisplay n why t input e → d ≡ e
+same_display n why t input d e p q =
+    let one = same_showings t (heard_of t.programme input) p.view.showings q.view.showings p.view.are q.view.are in
+    let view : d.view ≡ e.view = p.view.shows ∙ ap (displayed n) one ∙ sym q.view.shows in
     grind arith
 
-same_displays : (why : Bool) (t : Tuning) (slots : List (Option Group)) (displays other : List Display)
-    → AreDisplays why t slots displays → AreDisplays why t slots other → displays ≡ other
-same_displays why t [] [] [] p q = refl
-same_displays why t (slot ∷ before) (d ∷ displays) (e ∷ other) p q =
-    grind (arith, same_displays why t before displays other p.1 q.1, same_display)
-same_displays why t _ _ _ p q = grind arith
+same_displays : (n : ℕ) (why : Bool) (t : Tuning) (slots : List (Option Group)) (displays other : List Display)
+    → AreDisplays n why t slots displays → AreDisplays n why t slots other → displays ≡ other
+same_displays n why t [] [] [] p q = refl
+same_displays n why t (slot ∷ before) (d ∷ displays) (e ∷ other) p q =
+    ap₂ (λ x xs. x ∷ xs) (same_display n why t (slot ∷ before) d e p.0 q.0)
+    (same_displays n why t before displays other p.1 q.1)
+same_displays n why t _ _ _ p q = grind arith
 
 -- the bytes of a log write one output
 pub same_output : (how : Decoding) (text written other : List ℕ) → LogWrites how text written → LogWrites how text other
@@ -152,7 +204,7 @@ pub same_output : (how : Decoding) (text written other : List ℕ) → LogWrites
 same_output how text written other p q =
     let lines = same_lines text p.cut q.cut p.are q.are in
     let slots = same_slots how.rtplus q.cut p.write.slots q.write.slots (rw lines at p.write.say) q.write.say in
-    let displays = same_displays how.says_why (tuning_of how) q.write.slots p.write.write.displays
+    let displays = same_displays how.keep how.says_why (tuning_of how) q.write.slots p.write.write.displays
     q.write.write.displays (rw slots at p.write.write.are) q.write.write.are in
     p.write.write.changes ∙ ap changes_of displays ∙ sym q.write.write.changes
 

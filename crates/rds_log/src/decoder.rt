@@ -1,12 +1,14 @@
 //! The lines of the views of a receiver of a log.
-ghost use Rattle.std.specs.Prelude.{◌≡◌, ◌≤◌, ◌<◌, ◌+◌, ◌-◌, ◌^◌, ◌++◌, [], length};
+ghost use Rattle.std.specs.Prelude.{◌≡◌, ◌≤◌, ◌<◌, ◌+◌, ◌-◌, ◌^◌, ◌++◌, [], Bool, None, false, length};
 ghost use Rattle.std.proofs.Common.{rules};
-ghost use Rattle.rds_receiver.specs.Receipts.{Tuning};
-ghost use Rattle.rds_receiver.specs.Shown.{IsView};
+ghost use Rattle.rds_receiver.specs.Receipts.{Tuning, heard_of};
+ghost use Rattle.rds_receiver.specs.Counts.{keeping};
+ghost use Rattle.rds_receiver.specs.Shown.{IsView, ShownView};
 ghost use Rattle.rds_receiver.specs.ReceiverAt.{ReceiverAt, WhereReceiverStands};
 ghost use Rattle.rds_view_lines.specs.KeptView.{view_kept};
 ghost use Rattle.rds_view_lines.specs.Output.{change};
 ghost use Rattle.rds_view_lines.specs.Part.{prefix_of};
+ghost use Rattle.rds_log.specs.Inside.ViewLines.{ShowsChange};
 ghost use Rattle.rds_log.specs.LogWrites.{LinesWrite, SayWhys};
 ghost use Rattle.rds_view_lines.specs.declared.change.TheConstants.{SLOT_ROOM};
 
@@ -16,8 +18,8 @@ use rds_block::Blocks;
 use rds_fields::TagGroup;
 use rds_io::{Lines, TellingWrite, WriteFault};
 use rds_lines::{Heard, LogLine, News, OUTPUT_ROOM, Source, TakesLines};
-use rds_receiver::{Receiver, Whys};
-use rds_view_lines::{KeptView, Prefix, SLOT_ROOM, show};
+use rds_receiver::{Keeping, Kept, Receiver, Whys};
+use rds_view_lines::{KeptView, Prefix, SLOT_ROOM, Shown, show};
 
 /// Feeds a receiver slot by slot, and appends a line for each part of its view that changed. The line of a text or a
 /// name that is not shown any more may say why.
@@ -26,42 +28,55 @@ pub(crate) struct ViewLines {
     receiver: Receiver,
     says_why: bool,
     pub(crate) slot: u64,
-    shown: KeptView,
+    shown: Shown,
 }
 
 impl ViewLines {
     ghost use Rattle.rds_log.specs.Inside.ViewLines.{GivesChange, ViewsStandAt};
 
-    /// Starts before the first slot, with nothing shown.
-    pub(crate) fn new(receiver: Receiver, says_why: bool) -> ViewLines
+    /// Starts before the first slot, with nothing shown. The display keeps a text and a name for `keep` slots.
+    pub(crate) fn new(receiver: Receiver, says_why: bool, keep: u16) -> ViewLines
         ensures count { result.slot ≡ 0 }
-        ensures stands { (t : Tuning) → ReceiverAt t receiver [] → ViewsStandAt says_why t result [] [] }
+        ensures keep { result.shown.keeping.keep ≡ keep }
+        ensures stands { (keeps : Bool) (t : Tuning) → (keeps ≡ false → keep ≡ 0) → ReceiverAt t receiver []
+            → ViewsStandAt keeps keep says_why t result [] [] }
     {
         ViewLines {
             receiver,
             says_why,
             slot: 0,
-            shown: KeptView::new(),
+            shown: Shown {
+                view: KeptView::new(),
+                keeping: Keeping::new(keep),
+            },
         }
     }
 
-    /// Handles the group of one slot, if one came, and appends the line of each changed part.
+    /// Handles the group of one slot, if one came, and appends the line of each changed part. `KEEPS` is false only if the
+    /// display keeps nothing: then a slot costs nothing more.
     #[inline(always)]
-    pub(crate) fn slot<const N: usize>(&mut self, group: Option<Blocks>, lines: &mut Lines<N>)
+    pub(crate) fn slot<const KEEPS: bool, const N: usize>(
+        &mut self,
+        group: Option<Blocks>,
+        lines: &mut Lines<N>,
+    )
         requires slots { self.old.slot < 2 ^ 64 - 1 }
         requires room { length lines.old + SLOT_ROOM ≤ N }
         ensures count { self.new.slot ≡ self.old.slot + 1 }
         ensures room { length lines.new ≤ length lines.old + SLOT_ROOM }
-        ensures change { GivesChange self.old self.new group lines.old lines.new }
+        ensures change { GivesChange KEEPS self.old self.new group lines.old lines.new }
     {
-        if !self.receiver.slot_blocks(group) {
+        let is_changed = self.receiver.slot_blocks(group);
+        let change = change_of::<KEEPS>(&mut self.shown.keeping, &self.receiver, is_changed);
+        let Some(kept) = change else {
             self.slot += 1;
             return;
-        }
+        };
         show_slot(
             self.slot,
             self.whys(),
-            &mut self.shown,
+            kept,
+            &mut self.shown.view,
             &self.receiver,
             lines,
         );
@@ -80,12 +95,32 @@ impl ViewLines {
     }
 }
 
+/// Returns what a slot changes on the display, or `None` if nothing. `is_changed` is what the receiver's slot returned.
+#[inline(always)]
+fn change_of<const KEEPS: bool>(
+    keeping: &mut Keeping,
+    receiver: &Receiver,
+    is_changed: bool,
+) -> Option<Kept>
+    ensures keep { keeping.new.keep ≡ keeping.old.keep }
+    ensures same { result ≡ None → is_changed ≡ false }
+    ensures shows { WhereReceiverStands receiver.now (λ t input.
+        ShowsChange KEEPS keeping.old keeping.new result is_changed t (heard_of t.programme input)) }
+{
+    if KEEPS {
+        keeping.slot(receiver, is_changed)
+    } else {
+        Kept::none_if(is_changed)
+    }
+}
+
 /// Appends the line of each part of a view that changed in this slot. Few slots change one, so the prefix is made here.
 // Cold path.
 #[inline(never)]
 fn show_slot<const N: usize>(
     slot: u64,
     whys: Option<Whys>,
+    kept: Kept,
     shown: &mut KeptView,
     receiver: &Receiver,
     lines: &mut Lines<N>,
@@ -93,15 +128,17 @@ fn show_slot<const N: usize>(
     requires { length lines.old + SLOT_ROOM ≤ N }
     ensures changes { lines.new
         ≡ lines.old ++ change (prefix_of (Prefix.Slot slot)) whys (view_kept shown.old) (view_kept shown.new) }
-    ensures shows { WhereReceiverStands receiver.now (λ t input. IsView t input (view_kept shown.new)) }
+    ensures shows { WhereReceiverStands receiver.now (λ t input. (now : ShownView) × IsView t input now
+        × (view_kept shown.new ≡ keeping kept (view_kept shown.old) now)) }
     ensures room { length lines.new ≤ length lines.old + SLOT_ROOM }
 {
-    show(Prefix::Slot(slot), whys, shown, receiver, lines);
+    show(Prefix::Slot(slot), whys, kept, shown, receiver, lines);
 }
 
-/// Takes the lines of a log for `decode`, with the programmes of their groups.
+/// Takes the lines of a log for `decode`, with the programmes of their groups. `KEEPS` is false only if the display keeps
+/// nothing.
 #[derive(Drop)]
-pub(crate) struct Decoder {
+pub(crate) struct Decoder<const KEEPS: bool> {
     pub(crate) views: ViewLines,
     pi: u16,
     rtplus: TagGroup,
@@ -109,17 +146,18 @@ pub(crate) struct Decoder {
     pub(crate) incomplete: IncompleteTexts,
 }
 
-impl Decoder {
+impl<const KEEPS: bool> Decoder<KEEPS> {
     ghost use Rattle.rds_log.specs.Inside.Decoder.{HasDecoded};
 
     /// Starts a log.
-    pub(crate) fn new(how: Decoding) -> Decoder
+    pub(crate) fn new(how: Decoding) -> Decoder<KEEPS>
+        requires { KEEPS ≡ false → how.keep ≡ 0 }
         ensures none { result.views.slot ≡ 0 }
-        ensures decoded { HasDecoded how result [] [] }
+        ensures decoded { HasDecoded KEEPS how result.views result.rtplus [] [] }
     {
         let receiver = Receiver::tuned(how.pi, how.dwell, how.window);
         Decoder {
-            views: ViewLines::new(receiver, how.says_why),
+            views: ViewLines::new(receiver, how.says_why, how.keep),
             pi: how.pi,
             rtplus: how.rtplus,
             heard: Heard::new(),
@@ -128,7 +166,7 @@ impl Decoder {
     }
 }
 
-impl TakesLines for Decoder {
+impl<const KEEPS: bool> TakesLines for Decoder<KEEPS> {
     ghost use Rattle.rds_log.specs.Inside.Decoder.{HasDecoded, decoded_lines, decoded_part};
 
     type How = Decoding;
@@ -141,7 +179,7 @@ impl TakesLines for Decoder {
 
     ghost begins = { LinesWrite };
 
-    ghost took = { HasDecoded };
+    ghost took = { λ how it lines total. HasDecoded KEEPS how it.views it.rtplus lines total };
 
     ghost done = { λ it. ⊥ };
 
@@ -166,7 +204,7 @@ impl TakesLines for Decoder {
                 self.heard.slot(self.pi, heard);
                 self.heard.lost(self.pi, lost, source);
                 self.incomplete.note(self.pi, self.views.slot, begun);
-                self.views.slot(read, output);
+                self.views.slot::<KEEPS, OUTPUT_ROOM>(read, output);
                 Ok(true)
             }
         }
@@ -174,9 +212,9 @@ impl TakesLines for Decoder {
 
     fn tell<N: News>(&self, _news: &mut N) {}
 
-    ghost meant = { decoded_lines };
+    ghost meant = { λ how it lines total. decoded_lines KEEPS how it.views it.rtplus lines total };
 
-    ghost begun = { decoded_part };
+    ghost begun = { λ how it lines total. decoded_part KEEPS how it.views it.rtplus lines total };
 
     ghost fits = { Prim.search rules };
 }

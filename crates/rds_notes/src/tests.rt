@@ -16,6 +16,7 @@ fn too_long(rt: HostRuntime) -> Result<(), Fail> {
             task: Task::Decode {
                 window: None,
                 says_why: false,
+                keep: 0,
             },
             pi: "C201",
             rtplus: TagGroup::usual(),

@@ -72,7 +72,7 @@ PutsLine line w = (r : Result (Unit {0}) WriteFault) × Puts w line r
 
 -- the mark before the line of a fault: in the log that `encode` or `slots` writes, the line is a comment
 abbrev pub mark_of : Task → List ℕ
-mark_of (Decode window why) = []
+mark_of (Decode window why keep) = []
 mark_of (Encode programme late) = codes "# "
 mark_of (Simulate programme late window alone why) = []
 mark_of (Audit late running padded all) = []
@@ -151,15 +151,17 @@ simulated_station t programme late window alone =
     if nat_le (lateness_in window late) 1024
     then Some (tuned_station t programme late (record { window = window; is_flag_alone = alone })) else None
 
--- how `decode` decodes a log: with this window or none, and with reasons or without
-abbrev pub decoding_of : Listening → Option ℕ → Bool → Decoding
-decoding_of l window why =
+-- how `decode` decodes a log: with this window or none, with reasons or without, and for a display that keeps a text and
+-- a name for so many slots
+abbrev pub decoding_of : Listening → Option ℕ → Bool → ℕ → Decoding
+decoding_of l window why keep =
     record {
       pi = l.tuning.programme;
       rtplus = l.rtplus;
       dwell = l.tuning.dwell;
       window = window;
       says_why = why;
+      keep = keep;
     }
 
 -- where `audit` stops: with `--all` at the end of the log
@@ -231,8 +233,8 @@ LossRuns (Some lost) alone l r w status =
 -- the engine of the task ran, with receivers that listen so; the receiver of `decode` has the window of the task,
 -- and the text gives the slots that the receiver of `Lose` loses
 abbrev pub TaskRuns : Task → List ℕ → Listening → ReaderOver → Traffic → ℕ → Type 0
-TaskRuns (Decode window why) lose l r w status =
-    EngineRuns (Decodes (decoding_of l window why) (2 ^ 32) r.traffic) done (Decode window why) w status
+TaskRuns (Decode window why keep) lose l r w status =
+    EngineRuns (Decodes (decoding_of l window why keep) (2 ^ 32) r.traffic) done (Decode window why keep) w status
 TaskRuns (Encode programme late) lose l r w status =
     EngineRuns
     (Plays (with_form (Log l.rtplus) (tuned_station l.tuning programme late with_dwell)) (2 ^ 32) (script_in r)) done

@@ -81,7 +81,7 @@ loss_by P Q rests (Some lost) alone l r w status ran = ran
 pub task_by : {P Q U V : Type 0} → (P → Q) → (U → V) → (task : Task) (lose : List ℕ) (l : Listening) (r w : Traffic)
     (status : ℕ) → TaskRuns task lose l (record { traffic = r; ReadFailed = P; Untouched = U }) w status
     → TaskRuns task lose l (record { traffic = r; ReadFailed = Q; Untouched = V }) w status
-task_by says rests (Decode window why) lose l r w status ran = ran
+task_by says rests (Decode window why keep) lose l r w status ran = ran
 task_by says rests (Audit late running padded false) lose l r w status ran = ran
 task_by says rests (Audit late running padded true) lose l r w status ran = ran
 task_by says rests Witness lose l r w status ran = ran

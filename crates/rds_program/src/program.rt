@@ -135,13 +135,18 @@ fn run_task<R: TellingRead, W: TellingWrite, N: News>(
     // Prover: a matched value is copied by a new name before its second use (PROVER.md, "Workarounds").
     let (asked, rtplus, dwell) = (request.task, request.rtplus, request.dwell);
     match request.task {
-        Task::Decode { window, says_why } => {
+        Task::Decode {
+            window,
+            says_why,
+            keep,
+        } => {
             let decoding = Decoding {
                 pi,
                 rtplus,
                 dwell,
                 window,
                 says_why,
+                keep,
             };
             let log = &mut report.log;
             let decoded = decode_with_notes(reader, writer, decoding, MOST_READS, log, news);

@@ -9,4 +9,4 @@ mod shown;
 pub use change::{LINE_ROOM, Prefix, SLOT_ROOM, push_changes, push_class, push_quoted};
 pub use kept::{Bytes, KeptView};
 pub use parts::{Parts, same_parts};
-pub use shown::show;
+pub use shown::{Shown, show};

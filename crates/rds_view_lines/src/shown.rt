@@ -1,7 +1,9 @@
-//! The lines for a view that may have changed.
+//! What is displayed of a receiver, and the lines of its changes.
 ghost use Rattle.std.specs.Prelude.{◌≡◌, ◌≤◌, ◌+◌, ◌++◌, length};
 ghost use Rattle.rds_view_lines.specs.declared.change.TheConstants.{SLOT_ROOM};
-ghost use Rattle.rds_receiver.specs.Shown.{IsView};
+ghost use Rattle.rds_receiver.specs.Borrowed.{view_of};
+ghost use Rattle.rds_receiver.specs.Counts.{keeping};
+ghost use Rattle.rds_receiver.specs.Shown.{IsView, ShownView};
 ghost use Rattle.rds_receiver.specs.ReceiverAt.{WhereReceiverStands};
 ghost use Rattle.rds_view_lines.specs.KeptView.{view_kept};
 ghost use Rattle.rds_view_lines.specs.Output.{change};
@@ -10,15 +12,40 @@ ghost use Rattle.rds_view_lines.specs.Part.{prefix_of};
 use crate::change::{Prefix, push_changes};
 use crate::kept::KeptView;
 use rds_io::Lines;
-use rds_receiver::{Receiver, Whys};
+use rds_receiver::{Keeping, Kept, Receiver, View, Whys};
 
-/// Appends the line of each part that differs from the view that was shown, and keeps the receiver's view. With `whys`
-/// the line of a text or a name that is not shown any more says why.
+/// What is displayed of a receiver: a copy of its view, in which a text and a name may be kept.
+#[derive(Drop)]
+pub struct Shown {
+    pub view: KeptView,
+    /// For how long a text and a name are kept.
+    pub keeping: Keeping,
+}
+
+/// Returns the view of a display that keeps these parts of what it showed before. The others are those of the receiver.
+fn beside<'a>(kept: Kept, before: View<'a>, now: View<'a>) -> View<'a>
+    ensures { view_of result ≡ keeping kept (view_of before.entry) (view_of now.entry) }
+{
+    let text = if kept.text { before } else { now };
+    let name = if kept.name { before } else { now };
+    View {
+        text: text.text,
+        name: name.name,
+        item: text.item,
+        one: text.one,
+        two: text.two,
+    }
+}
+
+/// Appends the line of each part that differs from the view that was displayed. Displays the receiver's view then, and
+/// beside it what is kept of the view before. With `whys` the line of a text or a name that is not shown any more says
+/// why.
 // Cold path: few slots change a view.
 #[inline(never)]
 pub fn show<const N: usize>(
     prefix: Prefix,
     whys: Option<Whys>,
+    kept: Kept,
     shown: &mut KeptView,
     receiver: &Receiver,
     lines: &mut Lines<N>,
@@ -26,10 +53,12 @@ pub fn show<const N: usize>(
     requires { length lines.old + SLOT_ROOM ≤ N }
     ensures changes { lines.new
         ≡ lines.old ++ change (prefix_of prefix) whys (view_kept shown.old) (view_kept shown.new) }
-    ensures shows { WhereReceiverStands receiver.now (λ t input. IsView t input (view_kept shown.new)) }
+    ensures shows { WhereReceiverStands receiver.now (λ t input. (now : ShownView) × IsView t input now
+        × (view_kept shown.new ≡ keeping kept (view_kept shown.old) now)) }
     ensures room { length lines.new ≤ length lines.old + SLOT_ROOM }
 {
-    let now = receiver.view();
-    push_changes(prefix, whys, shown.view(), now, lines);
+    let before = shown.view();
+    let now = beside(kept, before, receiver.view());
+    push_changes(prefix, whys, before, now, lines);
     *shown = KeptView::of(now);
 }

@@ -532,7 +532,7 @@ headline safe head m k script log is_head some writes one other t below under = 
     all : (part : Part) → (c : List ℕ) × Shows one.output t part c
     all part =
         let displays = one.decodes.write.write.displays in
-        let long = displays_long false (tuning_of (plain head.pi m)) one.decodes.write.slots displays
+        let long = displays_long 0 false (tuning_of (plain head.pi m)) one.decodes.write.slots displays
         one.decodes.write.write.are in
         let same = slots_long 11 one.received one.decodes.cut one.decodes.write.slots one.decodes.are
         one.decodes.write.say in

@@ -349,8 +349,8 @@ says_so headline head m k t script log received other output other_output is_hea
 -- and that of audits
 says_nothing_new : NothingNew → (a : Auditing) (n t : ℕ) (log received output whole shown : List ℕ) → 0 < a.dwell
     → n < 2 ^ 64 → WholePasses a n log → Reaches a.pi a.late log received
-    → LogWrites (record { pi = a.pi; rtplus = a.rtplus; dwell = a.dwell; window = None; says_why = false }) received output
-    → LogWrites (record { pi = a.pi; rtplus = a.rtplus; dwell = a.dwell + a.late; window = None; says_why = false }) log whole
+    → LogWrites (record { pi = a.pi; rtplus = a.rtplus; dwell = a.dwell; window = None; says_why = false; keep = 0 }) received output
+    → LogWrites (record { pi = a.pi; rtplus = a.rtplus; dwell = a.dwell + a.late; window = None; says_why = false; keep = 0 }) log whole
     → t < length (slots received) → Displays output t (codes "text") (in_quotes shown)
     → (u : ℕ) × (u ≤ t) × (t < u + (a.dwell + a.late)) × Displays whole u (codes "text") (in_quotes shown)
 says_nothing_new law a n t log received output whole shown some few passes reaches one other below shows =

@@ -16,3 +16,4 @@ pub mod Reached
 pub mod HeadlineRows
 pub mod Headline
 pub mod NothingNew
+pub mod Kept

@@ -10,7 +10,7 @@ use Rattle.rds_audit.specs.declared.log_start.LogStart.{LogStart}
 use Rattle.rds_audit.specs.declared.log_start.LogStart.TheVariants.{Complete, Running}
 use Rattle.rds_audit.specs.Recording.{from_first_text, judged_as, preceded}
 use Rattle.rds_audit.specs.Rules.{LogPasses}
-use Rattle.rds_view_lines.specs.Output.{Display}
+use Rattle.rds_view_lines.specs.Output.{Display, changes_of}
 use Rattle.rds_view_lines.specs.ViewParts.{Name, Part, Text, line_in, part_content}
 use Rattle.std.specs.Prelude.{drop}
 use Rattle.std.proofs.lemmas.List.{drop-map}
@@ -59,17 +59,29 @@ use Rattle.rds_wire.proofs.Reading.{In, lines_of}
 -- ---- one part
 
 -- what is shown between quotation marks is a value
-has_value : (why : Option WhyNone) (o : Option (List ℕ)) (shown : List ℕ)
+pub has_value : (why : Option WhyNone) (o : Option (List ℕ)) (shown : List ℕ)
     → in_quotes shown ≡ text_content why o
     → (x : List ℕ) × (o ≡ Some x) × (shown ≡ printed x)
 has_value why None shown e = absurd (not_nothing shown (why, e))
 has_value why (Some x) shown e = (x, refl, same_printed shown x e)
 
-heard_first : (pi n : ℕ) (slots : List (Option Group))
+pub heard_first : (pi n : ℕ) (slots : List (Option Group))
     → heard_of pi (first_entries n slots) ≡ first_entries n (heard_of pi slots)
 heard_first pi n slots =
     sym (drop-map (heard_in pi) (length slots - n) slots)
     ∙ ap (λ j. drop (j - n) (heard_of pi slots)) (sym (length-map slots (heard_in pi)))
+
+-- an output displays the newest content of a part
+pub displays_newest : (displays : List Display) (output : List ℕ) → output ≡ changes_of displays → (part : Part)
+    (content : List ℕ) (u : ℕ) → HasNewest displays part content u → Displays output u (part_name part) content
+displays_newest displays output is part content u (slot, past, line, newest) = record {
+  slot = slot;
+  past = past;
+  line = in_output displays output is slot part content
+      (contains_from_in (line_in slot part content) (lines_of displays) line);
+  newest = λ v other after upto has. newest v other after upto
+      (in_from_contains (line_in v part other) (lines_of displays) (of_output displays output is v part other has));
+}
 
 module _ (part : Part) (value : ShownView → Option (List ℕ)) (why : Option Whys → Option WhyNone)
     (is : (whys : Option Whys) (view : ShownView) → part_content part whys view ≡ text_content (why whys) (value view))
@@ -78,7 +90,7 @@ module _ (part : Part) (value : ShownView → Option (List ℕ)) (why : Option W
     → IsShown IsWhole (cells_of (run_at pick m first heard)) (value view)) where
   -- what the display of a slot shows of the part
   shows_here : (a : Auditing) (m : ℕ) (slots : List (Option Group)) (displays : List Display)
-      → AreDisplays false (tuning_of (decoding a m)) slots displays → (t : ℕ) (d : Display) → HasEntry 0 displays t d
+      → AreDisplays 0 false (tuning_of (decoding a m)) slots displays → (t : ℕ) (d : Display) → HasEntry 0 displays t d
       → IsShown IsWhole (cells_of (run_at pick m 0 (heard_of a.pi (first_entries (t + 1) slots)))) (value d.view)
   shows_here a m slots displays are t d at =
       shows m 0 (heard_of a.pi (first_entries (t + 1) slots)) d.view
@@ -94,19 +106,8 @@ module _ (part : Part) (value : ShownView → Option (List ℕ)) (why : Option W
     core.0,
     core.1,
     core.2,
-    record {
-      slot = line.0;
-      past = line.1;
-      line = in_output w.write.write.displays whole w.write.write.changes line.0 part
-          (in_quotes shown)
-          (contains_from_in (line_in line.0 part (in_quotes shown))
-          (lines_of w.write.write.displays)
-          (subst (λ l. In (line_in line.0 part (in_quotes l)) (lines_of w.write.write.displays))
-          (sym val.2) line.2));
-      newest = λ v other after upto has. line.3 v other after upto
-          (in_from_contains (line_in v part other) (lines_of w.write.write.displays)
-          (of_output w.write.write.displays whole w.write.write.changes v part other has));
-    },
+    subst (λ l. Displays whole core.0 (part_name part) (in_quotes l)) (sym val.2)
+        (displays_newest w.write.write.displays whole w.write.write.changes part (quoted val.0) core.0 line),
   )
     where
       sent : IsLogOf a.rtplus log passes.slots
@@ -117,7 +118,7 @@ module _ (part : Part) (value : ShownView → Option (List ℕ)) (why : Option W
 
       at_t : (d : Display) × HasEntry 0 r.write.write.displays t d
       at_t = entry_at r.write.write.displays t
-          (omega (arith, t_long, displays_long false (tuning_of (decoding a a.dwell)) r.write.slots _ r.write.write.are))
+          (omega (arith, t_long, displays_long 0 false (tuning_of (decoding a a.dwell)) r.write.slots _ r.write.write.are))
 
       content : IsContentOf part at_t.0.view (in_quotes shown)
       content = shown_by r.write.write.displays output t part (in_quotes shown) at_t.0
@@ -126,7 +127,7 @@ module _ (part : Part) (value : ShownView → Option (List ℕ)) (why : Option W
             arith,
             reaches.few,
             slots_long a.rtplus received r.cut r.write.slots r.are r.write.say,
-            displays_long false (tuning_of (decoding a a.dwell)) r.write.slots _ r.write.write.are,
+            displays_long 0 false (tuning_of (decoding a a.dwell)) r.write.slots _ r.write.write.are,
           )) at_t.1
           (displays_shows r.write.write.displays output r.write.write.changes t part (in_quotes shown) d)
 
@@ -166,7 +167,7 @@ module _ (part : Part) (value : ShownView → Option (List ℕ)) (why : Option W
           record { lines = w.cut; are = w.are; say = w.write.say } sent
 
       w_long : length w.write.write.displays ≡ length passes.slots
-      w_long = sym (displays_long false (tuning_of (decoding a (spacing a))) w.write.slots _ w.write.write.are)
+      w_long = sym (displays_long 0 false (tuning_of (decoding a (spacing a))) w.write.slots _ w.write.write.are)
           ∙ ap length same
 
       at_u : (d : Display) × HasEntry 0 w.write.write.displays core.0 d

@@ -10,13 +10,16 @@ use Rattle.rds_fields.specs.declared.message.Message.{Message}
 use Rattle.rds_audit.specs.Recording.{from_first_text, preceded}
 use Rattle.rds_block.specs.declared.group.Group.{Group}
 use Rattle.rds_receiver.specs.Receipts.{Tuning, AreHeard, heard_in, heard_of}
-use Rattle.rds_receiver.specs.Shown.{IsView}
+use Rattle.rds_receiver.specs.Confirmed.{counted}
+use Rattle.rds_receiver.specs.Kept.{AreShowings, Displays, Showing, displayed, newest_showing}
+use Rattle.rds_receiver.specs.Shown.{IsView, ShownView}
+use Rattle.rds_receiver.proofs.Counting.{displays_now, newest_is}
 use Rattle.rds_safety.specs.Lawful.{IsLawful, Kind}
 use Rattle.rds_safety.specs.Marks.{IsMarkIn, Mark, marks}
 use Rattle.rds_safety.specs.Plans.{AreLawfulAs, Plans}
 use Rattle.rds_encoder.specs.Plan.{Broadcast}
-use Rattle.rds_view_lines.specs.Output.{Display}
-use Rattle.rds_log.specs.LogWrites.{AreDisplays}
+use Rattle.rds_view_lines.specs.Output.{Display, newest}
+use Rattle.rds_log.specs.LogWrites.{AreDisplays, IsDisplay}
 use Rattle.std.proofs.lemmas.Bool.Decides.{nat_tests}
 use Rattle.std.specs.List.{AllZip}
 use lib.ListN.{length-map}
@@ -118,20 +121,52 @@ lawful_first kind d n plans sent lawful = search (arith, kind_first)
 -- ---- displays
 
 -- there is a display for each slot
-pub displays_long : (why : Bool) (t : Tuning) (slots : List (Option Group)) (displays : List Display)
-    → AreDisplays why t slots displays → length slots ≡ length displays
-displays_long why t [] [] are = refl
-displays_long why t (slot ∷ before) (d ∷ older) are = ap suc (displays_long why t before older are.1)
-displays_long why t _ _ are = absurd are
+pub displays_long : (keep : ℕ) (why : Bool) (t : Tuning) (slots : List (Option Group)) (displays : List Display)
+    → AreDisplays keep why t slots displays → length slots ≡ length displays
+displays_long keep why t [] [] are = refl
+displays_long keep why t (slot ∷ before) (d ∷ older) are = ap suc (displays_long keep why t before older are.1)
+displays_long keep why t _ _ are = absurd are
+
+-- the display in a slot is that of the slots up to it
+pub display_in : (keep : ℕ) (why : Bool) (t : Tuning) (slots : List (Option Group)) (displays : List Display) (n : ℕ)
+    (d : Display) → AreDisplays keep why t slots displays → HasEntry 0 displays n d
+    → IsDisplay keep why t (first_entries (n + 1) slots) d × (n < length slots)
+display_in keep why t [] [] n d are at = absurd at
+display_in keep why t (slot ∷ before) (x ∷ older) n d are here =
+    grind (arith, display_in keep why t before older n d are.1, displays_long, first_all, first_more)
+display_in keep why t _ _ n d are at = absurd are
+
+-- a display that keeps nothing shows the newest view
+newest_displayed : (t : Tuning) (heard : List (Option Message)) (showings : List Showing) → AreShowings t heard showings
+    → displayed 0 showings ≡ (newest_showing showings).view
+newest_displayed t heard [] are = refl
+newest_displayed t [] (s ∷ older) are = absurd are
+newest_displayed t (h ∷ before) (s ∷ older) are =
+    displays_now t.dwell t.first (counted t (h ∷ before)) s older are.0
+
+-- it is the view of its receiver
+pub plain_view : (t : Tuning) (input : List (Option Group)) (view : ShownView)
+    → Displays 0 t (heard_of t.programme input) view → IsView t input view
+plain_view t input view d =
+    let heard = heard_of t.programme input in
+    subst (IsView t input) (sym (d.shows ∙ newest_displayed t heard d.showings d.are))
+    (newest_is t heard d.showings d.are).view
+
+-- the newest view is that of all slots
+pub newest_view : (why : Bool) (t : Tuning) (slots : List (Option Group)) (displays : List Display)
+    → AreDisplays 0 why t slots displays → IsView t slots (newest displays)
+newest_view why t [] [] are = (newest_is t [] [] are).view
+newest_view why t (slot ∷ before) (d ∷ older) are = plain_view t (slot ∷ before) d.view are.0.view
+newest_view why t [] (d ∷ older) are = absurd are
+newest_view why t (slot ∷ before) [] are = absurd are
 
 -- the view in a slot is that of the slots up to it
 pub view_in : (why : Bool) (t : Tuning) (slots : List (Option Group)) (displays : List Display) (n : ℕ) (d : Display)
-    → AreDisplays why t slots displays → HasEntry 0 displays n d
+    → AreDisplays 0 why t slots displays → HasEntry 0 displays n d
     → IsView t (first_entries (n + 1) slots) d.view × (n < length slots)
-view_in why t [] [] n d are at = absurd at
-view_in why t (slot ∷ before) (x ∷ older) n d are here =
-    grind (arith, view_in why t before older n d are.1, displays_long, first_all, first_more)
-view_in why t _ _ n d are at = absurd are
+view_in why t slots displays n d are at =
+    let it = display_in 0 why t slots displays n d are at in
+    (plain_view t (first_entries (n + 1) slots) d.view it.0.view, it.1)
 
 -- ---- two lists side by side
 

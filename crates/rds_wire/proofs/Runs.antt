@@ -297,7 +297,7 @@ pub decoded_by_the_program : WhatTheProgramDecodesIsPrinted
 decoded_by_the_program window why n pi m received output ran = by ran.ran.outcome ran.ran.ran ran.ran.ended
   where
     how : Decoding
-    how = decoding_of (listening n pi m) window why
+    how = decoding_of (listening n pi m) window why 0
 
     first : Traffic
     first = record ran.w { after = ran.ran.mid; failures_after = ran.ran.failures }
@@ -330,7 +330,7 @@ decoded_by_the_program window why n pi m received output ran = by ran.ran.outcom
         single f one told
 
     by : (outcome : Result (Unit {0}) LogFault) → Decodes how (2 ^ 32) ran.r first outcome
-        → EndsWith done (Decode window why) outcome rest ran.status → Shown window n pi m received output ran.status
+        → EndsWith done (Decode window why 0) outcome rest ran.status → Shown window n pi m received output ran.status
     by (Ok done) all ended =
         let text = read_whole ran.r.before ran.r.after received all.text ran.given all.read all.end in
         let same = same_known ran.w.after output all.written ran.wrote

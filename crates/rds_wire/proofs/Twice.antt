@@ -13,7 +13,7 @@ use Rattle.rds_wire.specs.Received.{WhoLosesSlotsReceives, first_entries, own_gr
 use Rattle.rds_wire.specs.Twice.{WhoLosesSlotsReceivesForTwo, HasMessages, IsReceivedWithWrong, IsSafeIfHeardTwice}
 use Rattle.rds_wire.specs.Twice.{WhatIsEncodedIsSafeIfHeardTwice, WhatPassesIsSafeIfHeardTwice}
 use Rattle.rds_wire.proofs.Receiving.{entry_in_first, entry_of_first, first_length, entry_left, late_groups, own_heard}
-use Rattle.rds_wire.proofs.Receiving.{displays_long, lawful_first, mark_in_first, view_in}
+use Rattle.rds_wire.proofs.Receiving.{displays_long, lawful_first, mark_in_first, newest_view, plain_view, view_in}
 use Rattle.rds_wire.proofs.Wired.{entry_at, EncoderLaws, log_of_script, shown, tagged}
 use Rattle.std.proofs.lemmas.Bool.{cases_lt}
 use Rattle.rds_receiver.specs.OneView.{same_view}
@@ -22,7 +22,6 @@ use Rattle.rds_receiver.specs.declared.why.Whys.{Whys}
 use Rattle.rds_view_lines.specs.Output.{Display, newest}
 use Rattle.rds_view_lines.specs.ViewParts.{line_in, part_content, Part}
 use Rattle.rds_log.specs.LogWrites.{AreDisplays}
-use Rattle.rds_log.proofs.Decodes.{newest_view}
 use Rattle.rds_wire.specs.Mixes.{AMixIsShown}
 use Rattle.rds_wire.proofs.Reading.{In, are_lines, contains_from_in, in_older, in_slot, is_same_part, lines_of}
 use Rattle.rds_wire.proofs.Reading.{AreTagsUpTo, IsContentOf, shown_safely}
@@ -173,7 +172,7 @@ is_new thing before now isnt has = grind (arith, is_same_part, one_text, one_tag
 
 -- the line of the thing is one of the lines of the displays
 has_line : (why : Bool) (t : Tuning) (log : List (Option Group)) (lost : List Burst) (slot : ℕ) (thing : Thing) (n : ℕ)
-    (displays : List Display) → IsNew t log lost slot thing → slot < n → AreDisplays why t (got lost log n) displays
+    (displays : List Display) → IsNew t log lost slot thing → slot < n → AreDisplays 0 why t (got lost log n) displays
     → In (line_in slot (part_of thing) (content_of thing)) (lines_of displays)
 unfolding got
 has_line why t log lost slot thing zero displays new less are = absurd (omega arith)
@@ -186,7 +185,7 @@ has_line why t log lost slot thing (suc n) (d ∷ older) new less are =
           (has_line why t log lost slot thing n older new before are.1)
       | inr from ↦ (
           let here : slot ≡ n = omega arith in
-          let count : length older ≡ n = sym (displays_long why t (got lost log n) older are.1) ∙ got_long lost log n in
+          let count : length older ≡ n = sym (displays_long 0 why t (got lost log n) older are.1) ∙ got_long lost log n in
           let was : IsView t (got lost log n) new.before =
           subst (λ (k : ℕ). IsView t (got lost log k) new.before) here new.was in
           let is : IsView t (got lost log (n + 1)) new.after =
@@ -196,7 +195,8 @@ has_line why t log lost slot thing (suc n) (d ∷ older) new less are =
           let old : newest older ≡ new.before =
           same_view t (got lost log n) (newest older) new.before
           (newest_view why t (got lost log n) older are.1) was in
-          let now : d.view ≡ new.after = same_view t (got lost log (suc n)) d.view new.after are.0.view is_next in
+          let now : d.view ≡ new.after = same_view t (got lost log (suc n)) d.view new.after
+          (plain_view t (got lost log (suc n)) d.view are.0.view) is_next in
           let isnt : ViewHas (newest older) thing → ⊥ =
           subst (λ (v : ShownView). ViewHas v thing → ⊥) (sym old) new.not_shown in
           let has : Has d.view thing = subst (λ (v : ShownView). Has v thing) (sym now) new.has in
@@ -243,7 +243,7 @@ module _ (n pi m w k : ℕ) (log : List ℕ) (sent : List (Option Message)) (is 
   display =
       let reached = r.reached in
       entry_at p.write.write.displays t
-      (omega (arith, reached, displays_long p.why tuning p.write.slots _ p.write.write.are))
+      (omega (arith, reached, displays_long 0 p.why tuning p.write.slots _ p.write.write.are))
 
   abbrev heard : List (Option Message)
   heard = heard_of pi (first_entries (t + 1) p.write.slots)
@@ -290,7 +290,7 @@ module _ (n pi m w k : ℕ) (log : List ℕ) (sent : List (Option Message)) (is 
   shows part content sh =
       let few = r.few in
       shown p.write.write.displays printed t part content display.0 p.write.write.changes
-      (omega (arith, few, displays_long p.why tuning p.write.slots _ p.write.write.are)) display.1 sh
+      (omega (arith, few, displays_long 0 p.why tuning p.write.slots _ p.write.write.are)) display.1 sh
 
 -- a log with lawful plans is safe for such receivers
 lawful_is_safe_twice : TwiceLaws → (n pi m w k : ℕ) (log : List ℕ) (sent : List (Option Message)) (air : StationPlans)

@@ -192,7 +192,7 @@ module _ (a : Auditing) (log : List ℕ) (sent : List (Option Group)) (messages 
     display =
         let reached = r.reached in
         entry_at p.write.write.displays t
-        (omega (arith, reached, displays_long p.why (tuned a.pi a.dwell) p.write.slots _ p.write.write.are))
+        (omega (arith, reached, displays_long 0 p.why (tuned a.pi a.dwell) p.write.slots _ p.write.write.are))
 
     view : IsView (tuned a.pi a.dwell) (first_entries (t + 1) p.write.slots) display.0.view
     view = (view_in p.why (tuned a.pi a.dwell) p.write.slots p.write.write.displays t display.0 p.write.write.are
@@ -223,7 +223,7 @@ module _ (a : Auditing) (log : List ℕ) (sent : List (Option Group)) (messages 
     shows part content sh =
         let few = r.few in
         shown p.write.write.displays printed t part content display.0 p.write.write.changes
-        (omega (arith, few, displays_long p.why (tuned a.pi a.dwell) p.write.slots _ p.write.write.are)) display.1 sh
+        (omega (arith, few, displays_long 0 p.why (tuned a.pi a.dwell) p.write.slots _ p.write.write.are)) display.1 sh
 
 -- ---- logs with lawful plans
 

@@ -6,6 +6,8 @@ pub mod Wire
 -- The headline in one file.
 pub mod Headline
 pub mod NothingNew
+-- With `--keep`.
+pub mod Kept
 -- The same for what `slots` writes, for receivers that show only what they heard twice, and for runs of the program.
 pub mod FromTimes
 pub mod Twice

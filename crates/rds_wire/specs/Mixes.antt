@@ -16,5 +16,5 @@ abbrev pub AMixIsShown : Type 0
 AMixIsShown =
     (why : Bool) (t : Tuning) (ahead : ℕ) (log : List (Option Group)) (lost : List Burst) (slot : ℕ) (thing : Thing)
     (displays : List Display)
-    → IsMix t ahead log lost slot thing → AreDisplays why t (got lost log (length log)) displays
+    → IsMix t ahead log lost slot thing → AreDisplays 0 why t (got lost log (length log)) displays
     → Shows (changes_of displays) slot (part_of thing) (content_of thing)

@@ -17,7 +17,7 @@ use Rattle.rds_wire.specs.Headline.{Displays, Reaches, in_quotes, slots}
 
 -- `decode` with a dwell of m slots
 abbrev pub decoding : Auditing → ℕ → Decoding
-decoding a m = record { pi = a.pi; rtplus = a.rtplus; dwell = m; window = None; says_why = false }
+decoding a m = record { pi = a.pi; rtplus = a.rtplus; dwell = m; window = None; says_why = false; keep = 0 }
 
 -- in one of the last M + K slots up to slot t, a receiver that gets each slot of the log and has a dwell of M + K slots
 -- displays the same

@@ -12,7 +12,7 @@ pub record Prints (n pi m : ℕ) (window : Option ℕ) (received printed : List 
   pub lines : List Line
   pub begins : BeginsWith received (Some []) lines
   pub why : Bool
-  pub write : LinesWrite record { pi = pi; rtplus = n; dwell = m; window = window; says_why = why } lines
+  pub write : LinesWrite record { pi = pi; rtplus = n; dwell = m; window = window; says_why = why; keep = 0 } lines
       printed
 
 -- the newest line of the part up to slot t has this content

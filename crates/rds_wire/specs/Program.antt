@@ -65,11 +65,11 @@ WhatTheProgramPassesIsSafe =
     → (ran : Ran (Audit k running padded all) (listening n pi m) log output) → ran.status ≡ 0
     → HasSafePlans (auditing_of (listening n pi m) k running padded all) log
 
--- what the program decodes with M shows what such receivers print. With status 0 it read all lines of the received log
+-- what the program decodes with M, for a display that keeps nothing, shows what such receivers print. With status 0 it read all lines of the received log
 abbrev pub WhatTheProgramDecodesIsPrinted : Type 0
 WhatTheProgramDecodesIsPrinted =
     (window : Option ℕ) (why : Bool) (n pi m : ℕ) (received output : List ℕ)
-    → (ran : Ran (Decode window why) (listening n pi m) received output)
+    → (ran : Ran (Decode window why 0) (listening n pi m) received output)
     → (printed : List ℕ) × (prints : Prints n pi m window received printed)
     × (ran.status ≡ 0 → AreLines received prints.lines)
     × ((t : ℕ) (part : Part) (content : List ℕ) → Shows output t part content → Shows printed t part content)

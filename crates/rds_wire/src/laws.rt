@@ -3,6 +3,7 @@ ghost use Rattle.rds_wire.specs.FromTimes.{WhatSlotsWritesIsReceived};
 ghost use Rattle.rds_wire.specs.Groups.{GroupsByOwnClockAreMessagesByIt, LateGroupsAreLateMessages};
 ghost use Rattle.rds_wire.specs.Groups.{OtherGroupsAreNothing, WhatIsSentIsHeard};
 ghost use Rattle.rds_wire.specs.Headline.{Headline};
+ghost use Rattle.rds_wire.specs.Kept.{NothingNewIsKept, WhatIsKeptWasDisplayed, WhatIsKeptWasOnAir};
 ghost use Rattle.rds_wire.specs.Mixes.{AMixIsShown};
 ghost use Rattle.rds_wire.specs.NothingNew.{NothingNew};
 ghost use Rattle.rds_wire.specs.Program.{WhatIsAskedForRan, WhatTheProgramDecodesIsPrinted};
@@ -40,6 +41,18 @@ pub fn nothing_new_is_displayed()
     safe_by_padded_plans();
     what_passes_is_safe();
     what_passes_as_a_recording_is_safe();
+}
+
+/// States what `decode --keep N` displays: what `decode` without it displayed at most N slots before, a tag with its
+/// text. So it may be old, but no mix. Of the log of a script, it was on air within the last M + K + N slots. Of a log
+/// to which `audit` said yes, a receiver without a loss displayed it within the last M + K + N slots.
+pub fn what_is_kept_was_displayed()
+    ensures displayed { WhatIsKeptWasDisplayed }
+    ensures on_air { WhatIsKeptWasOnAir }
+    ensures nothing_new { NothingNewIsKept }
+{
+    the_headline();
+    nothing_new_is_displayed();
 }
 
 /// States the law of scripts: what `decode` prints for the log that `encode` wrote, with slots lost and groups at most

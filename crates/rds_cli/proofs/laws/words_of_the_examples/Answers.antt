@@ -1,11 +1,11 @@
 use Rattle.std.proofs.Common.{refl}
 use Rattle.clap.proofs.OnLiterals.{clap_on_literals}
 use Rattle.rds_cli.specs.CommandLine.{audit_app, decode_app, judging_app, late_app, log_app, log_readers_app, sim_app}
-use Rattle.rds_cli.specs.CommandLine.{slots_app, station_app, timed_app, witness_app}
+use Rattle.rds_cli.specs.CommandLine.{shown_app, slots_app, station_app, timed_app, witness_app}
 use Rattle.rds_cli.proofs.laws.words_of_the_examples.Goals as goal
 
 pub returns : goal.returns
-unfolding clap_on_literals log_app decode_app late_app station_app sim_app slots_app timed_app judging_app audit_app
+unfolding clap_on_literals log_app shown_app decode_app late_app station_app sim_app slots_app timed_app judging_app audit_app
     log_readers_app witness_app
 returns c = record {
   decode = record { taken = refl; ask = refl };
@@ -43,6 +43,9 @@ returns c = record {
   slots_file = record { taken = refl; ask = refl };
   two_files = refl;
   decode_why = record { taken = refl; ask = refl };
+  decode_keep = record { taken = refl; ask = refl };
+  long_keep = refl;
+  audit_keep = refl;
   audit_why = refl;
   small_window = refl;
   large_window = refl;

@@ -6,19 +6,19 @@ use Rattle.clap.specs.Words.{App, HasKind, fault_of, found_of, is_simple, is_sim
 use Rattle.clap.specs.Words.{Kinds, subcommand_of}
 use Rattle.clap.specs.declared.parser.matches.ArgMatches.TheViews.{out-ArgMatches, out-SubCommand}
 use Rattle.rds_cli.specs.CommandLine.{audit_app, asked_of, decode_app, is_shown, judging_app, late_app, log_app}
-use Rattle.rds_cli.specs.CommandLine.{log_readers_app, sim_app, slots_app, station_app, timed_app, witness_app}
+use Rattle.rds_cli.specs.CommandLine.{log_readers_app, shown_app, sim_app, slots_app, station_app, timed_app, witness_app}
 use Rattle.rds_cli.proofs.ErrorKinds.{answered_by}
 use Rattle.rds_cli.proofs.request.parse.Goals as goal
 
 pub returns-clause-kinds : goal.returns-clause-kinds
-unfolding log_app decode_app late_app station_app sim_app slots_app timed_app judging_app audit_app log_readers_app
+unfolding log_app shown_app decode_app late_app station_app sim_app slots_app timed_app judging_app audit_app log_readers_app
     witness_app
 returns-clause-kinds c =
     sym (ap (λ (a : App). fault_of a (map (λ w. w.now) c.args.words.now)) c.in_ok-whole.ensures.app)
     ∙ c.in-Ok.ensures.kinds (ap is_simple_and_free c.in_ok-whole.ensures.app)
 
 pub returns-in-Err-clause-kinds : goal.returns-in-Err-clause-kinds
-unfolding log_app decode_app late_app station_app sim_app slots_app timed_app judging_app audit_app log_readers_app
+unfolding log_app shown_app decode_app late_app station_app sim_app slots_app timed_app judging_app audit_app log_readers_app
     witness_app
 returns-in-Err-clause-kinds c =
     subst (λ (a : App). HasKind (fault_of a (map (λ w. w.now) c.args.words.now)) c.in-Err.error)
@@ -43,7 +43,7 @@ no_part : {A B C : Type 0} (f : A → B) (g : A → C) (o : Option A) → None �
 no_part f g o p = grind (arith)
 
 pub returns-in_default-clause-ok : goal.returns-in_default-clause-ok
-unfolding log_app decode_app late_app station_app sim_app slots_app timed_app judging_app audit_app log_readers_app
+unfolding log_app shown_app decode_app late_app station_app sim_app slots_app timed_app judging_app audit_app log_readers_app
     witness_app
 returns-in_default-clause-ok c =
     let found = (out-ArgMatches c.in-Ok.matches).subcommand in
@@ -55,7 +55,7 @@ returns-in_default-clause-ok c =
     ∙ ap (λ (a : App). subcommand_of a (map (λ w. w.now) c.args.words.now)) c.in_ok-whole.ensures.app)
 
 pub returns-in_default-clause-kinds : goal.returns-in_default-clause-kinds
-unfolding log_app decode_app late_app station_app sim_app slots_app timed_app judging_app audit_app log_readers_app
+unfolding log_app shown_app decode_app late_app station_app sim_app slots_app timed_app judging_app audit_app log_readers_app
     witness_app
 returns-in_default-clause-kinds c =
     sym (ap (λ (a : App). fault_of a (map (λ w. w.now) c.args.words.now)) c.in_ok-whole.ensures.app)
@@ -65,7 +65,7 @@ pub returns-in_default-clause-taken : goal.returns-in_default-clause-taken
 returns-in_default-clause-taken c = returns-in_default-clause-kinds c
 
 pub returns-clause-ok : goal.returns-clause-ok
-unfolding log_app decode_app late_app station_app sim_app slots_app timed_app judging_app audit_app log_readers_app
+unfolding log_app shown_app decode_app late_app station_app sim_app slots_app timed_app judging_app audit_app log_readers_app
     witness_app
 returns-clause-ok c =
     let found = (out-ArgMatches c.in-Ok.matches).subcommand in

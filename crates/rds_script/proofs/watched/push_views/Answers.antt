@@ -1,5 +1,6 @@
-use Rattle.std.proofs.Common.{◌<◌, ◌∙◌, arith, inl, inr, length}
+use Rattle.std.proofs.Common.{◌<◌, ◌∙◌, arith, inl, inr, length, subst, sym}
 use Rattle.std.proofs.lemmas.Grind.{common_steps}
+use Rattle.rds_receiver.specs.Shown.{IsView}
 use Rattle.rds_world.specs.Slots.{input_of}
 use Rattle.rds_world.specs.State.{distance}
 use Rattle.rds_view_lines.specs.KeptView.{view_kept}
@@ -29,7 +30,8 @@ loop-i-preserved c =
         | inl less ↦ rw (other_set c.loop-i.shown c.loop-i.i i c.show.new.shown (λ e. omega (arith, e, less)))
             (c.loop-i.invariant.views config events s were i less)
         | inr same ↦ rw (same, at_set c.loop-i.shown c.loop-i.i c.show.new.shown within)
-            (c.in-Some.ensures.shows config events s (view_kept c.show.new.shown) c.show.ensures.shows)
+            (c.in-Some.ensures.shows config events s (view_kept c.show.new.shown) (λ t input stands.
+            (let (now, view, is) = c.show.ensures.shows t input stands in subst (IsView t input) (sym is) view)))
       ];
       later = λ i l. other_set c.loop-i.shown c.loop-i.i i c.show.new.shown (λ e. omega (arith, e, l))
           ∙ c.loop-i.invariant.later i (omega (arith, l));

@@ -2,9 +2,9 @@ use Rattle.std.proofs.Common.{[], refl}
 use Rattle.rds_log.proofs.decoder.Decoder.new.Goals as goal
 
 pub returns-clause-decoded : goal.returns-clause-decoded
-returns-clause-decoded c = record {
+returns-clause-decoded g c = record {
   slots = [];
   say = refl;
-  rtplus = refl;
-  views = c.new.ensures.stands _ (c.tuned-receiver.ensures.stands 0);
+  same = refl;
+  views = c.new.ensures.stands _ _ c.requires (c.tuned-receiver.ensures.stands 0);
 }

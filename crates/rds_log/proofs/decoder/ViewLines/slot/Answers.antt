@@ -1,21 +1,38 @@
-use Rattle.std.proofs.Common.{◌∷◌, refl, subst}
+use Rattle.std.proofs.Common.{◌∷◌, None, Some, refl, subst}
+use Rattle.rds_receiver.specs.Confirmed.{counted}
+use Rattle.rds_receiver.specs.Kept.{IsShowing}
+use Rattle.rds_receiver.specs.Receipts.{heard_of}
+use Rattle.rds_receiver.proofs.Counting.{newest_is, showing_with}
 use Rattle.rds_log.specs.LogWrites.{SayWhys}
-use Rattle.rds_view_lines.specs.KeptView.{view_kept}
-use Rattle.rds_log.proofs.Decodes.{slot_given, slot_same}
+use Rattle.rds_log.proofs.Decodes.{shows_on, slot_given, slot_same}
 use Rattle.rds_log.proofs.decoder.ViewLines.slot.Goals as goal
 
-pub returns-then-not-slot_blocks-clause-change : goal.returns-then-not-slot_blocks-clause-change
-returns-then-not-slot_blocks-clause-change g c why t slots written s =
-    slot_same why t c.args.self.now _ slots written c.args.lines.now c.args.group s
-    (c.slot_blocks.ensures.stands t slots s.receiver) (λ view shown. c.slot_blocks.ensures.same
-    c.if-not-slot_blocks.true view t slots s.receiver shown) refl refl refl
+pub returns-in_default-clause-change : goal.returns-in_default-clause-change
+returns-in_default-clause-change g c n why t slots written s =
+    let receiver = c.slot_blocks-is_changed.ensures.stands t slots s.receiver in
+    let calm = c.in_default.ensures.same refl in
+    slot_same _ why n t c.args.self.now _ slots written c.args.lines.now c.args.group s receiver
+    (λ view shown. c.slot_blocks-is_changed.ensures.same calm view t slots s.receiver shown)
+    (λ seen is. shows_on _ why n t c.args.self.now _ slots written c.args.group None _ s seen is
+    (λ unchanged. c.slot_blocks-is_changed.ensures.goes_on calm t slots s.receiver _ seen
+    (newest_is t (heard_of t.programme slots) s.showings s.heard) is)
+    (c.in_default.ensures.shows t (c.args.group ∷ slots) receiver))
+    refl refl c.change_of-change.ensures.keep refl
 
 pub returns-clause-change : goal.returns-clause-change
-returns-clause-change g c why t slots written s =
-    let receiver = c.slot_blocks.ensures.stands t slots s.receiver in
+returns-clause-change g c n why t slots written s =
+    let receiver = c.slot_blocks-is_changed.ensures.stands t slots s.receiver in
     let say = subst (λ b. SayWhys b t (c.args.group ∷ slots) c.whys.result) s.says_why
     (c.whys.ensures t (c.args.group ∷ slots) receiver) in
-    slot_given why t c.args.self.now _ slots written c.args.lines.now c.show_slot.new.lines c.args.group
-    (record { view = view_kept c.show_slot.new.shown; whys = c.whys.result }) s
-    receiver (record { view = c.show_slot.ensures.shows t (c.args.group ∷ slots) receiver; whys = say }) refl refl refl
-    c.show_slot.ensures.changes
+    let (now, view, shown) = c.show_slot.ensures.shows t (c.args.group ∷ slots) receiver in
+    let heard = counted t (heard_of t.programme (c.args.group ∷ slots)) in
+    let seen = showing_with t.dwell t.first heard now in
+    let is : IsShowing t.dwell t.first heard seen = record { view = view; text = refl; name = refl } in
+    slot_given _ why n t c.args.self.now _ slots written c.args.lines.now c.show_slot.new.lines c.args.group
+    (Some c.in-Some.kept) seen c.whys.result s receiver is
+    (shows_on _ why n t c.args.self.now _ slots written c.args.group (Some c.in-Some.kept)
+    c.slot_blocks-is_changed.result s seen is
+    (λ unchanged. c.slot_blocks-is_changed.ensures.goes_on unchanged t slots s.receiver _ seen
+    (newest_is t (heard_of t.programme slots) s.showings s.heard) is)
+    (c.in-Some.ensures.shows t (c.args.group ∷ slots) receiver))
+    say refl refl c.change_of-change.ensures.keep shown c.show_slot.ensures.changes
