@@ -140,7 +140,7 @@ is_filled = refl
 
 -- ---- a script with d = 1: HI from slot 1, its tags from slot 2, and a restart in slot 3
 
-abbrev script : List ℕ
+abbrev pub script : List ℕ
 script = codes "-,,1,\ntext,HI,1,\ntags,1 1 1 0 1 0 0 0,1,\nrestart,,1,\n"
 
 set_in : (slot : ℕ) (s : ℕ × List ℕ) → (air_in (codes "text") 1 script slot).set ≡ Some s → slot ≤ 3
@@ -175,7 +175,7 @@ is_hi slot k shown few o =
 not_before : (k : ℕ) (shown : List ℕ) → OnAir (codes "text") 1 script 0 shown k → ⊥
 not_before k shown o = omega (arith, (is_hi 0 k shown (omega arith) o).0)
 
-not_another : (k slot : ℕ) → slot ≤ 3 → OnAir (codes "text") 1 script slot (codes "YO") k → ⊥
+pub not_another : (k slot : ℕ) → slot ≤ 3 → OnAir (codes "text") 1 script slot (codes "YO") k → ⊥
 not_another k slot few o =
     let bad : 89 ≡ 72 = ap (λ (l : List ℕ). get_or l 0 0) (is_hi slot k (codes "YO") few o).4 in omega (arith, bad)
 
@@ -184,7 +184,7 @@ unfolding next_record records_from strip_bom
 not_second shown o = (let bad : 1 ≡ 2 = o.number in omega (arith, bad))
 
 -- with n = 1 not in the slot of the restart, and in no slot before the text
-not_lately : (k : ℕ) (shown : List ℕ) → WasOnAir (codes "text") 1 1 3 script shown k → ⊥
+pub not_lately : (k : ℕ) (shown : List ℕ) → WasOnAir (codes "text") 1 1 3 script shown k → ⊥
 not_lately k shown w =
     let it = is_hi w.slot k shown w.past w.on_air in omega (arith, it.1, w.recent)
 
@@ -208,7 +208,7 @@ unfolding printed_byte character_of encode_utf8
 shows_title = refl
 
 -- the tags of slot 2 are not for slot 1
-tags_too_early : (k : ℕ) (text content : List ℕ) → WentWith (codes "tag1") 1 1 script text content k → ⊥
+pub tags_too_early : (k : ℕ) (text content : List ℕ) → WentWith (codes "tag1") 1 1 script text content k → ⊥
 tags_too_early k text content w =
     let it = is_hi w.slot k text (omega (arith, w.past)) w.on_air in omega (arith, it.2, w.lasted)
 
@@ -248,7 +248,7 @@ is_line : change_line 12 (codes "text") (codes " \"HI\"") ≡ codes "12 text \"H
 unfolding digits
 is_line = refl
 
-abbrev output : List ℕ
+abbrev pub output : List ℕ
 output = codes "0 text \"HI\"\n1 text none\n"
 
 is_shown : Displays output 0 (codes "text") (codes " \"HI\"")
@@ -272,7 +272,7 @@ unfolding digits
 none_in_1 = (1, omega arith, refl)
 
 -- a newer line ends it
-is_gone : Displays output 1 (codes "text") (codes " \"HI\"") → ⊥
+pub is_gone : Displays output 1 (codes "text") (codes " \"HI\"") → ⊥
 is_gone d = by d.slot d.past d.line d.newest
   where
     by : (slot : ℕ) → slot ≤ 1 → Contains (lines output) (change_line slot (codes "text") (codes " \"HI\""))
@@ -298,30 +298,30 @@ is_later content d =
 
 -- ---- what is safe
 
--- in slot 1 the output has this line of a part
-shown_in_1 : (output word content : List ℕ) → Contains (lines output) (change_line 1 word content)
-    → Displays output 1 word content
-shown_in_1 output word content line =
-    record { slot = 1; past = omega arith; line = line; newest = λ u other after upto has. omega (arith, after, upto) }
+-- in a slot the output has this line of a part
+pub shown_in : (t : ℕ) (output word content : List ℕ) → Contains (lines output) (change_line t word content)
+    → Displays output t word content
+shown_in t output word content line =
+    record { slot = t; past = omega arith; line = line; newest = λ u other after upto has. omega (arith, after, upto) }
 
-abbrev mixed : List ℕ
+abbrev pub mixed : List ℕ
 mixed = codes "1 text \"YO\"\n"
 
-mixed_line : Contains (lines mixed) (change_line 1 (codes "text") (codes " \"YO\""))
+pub mixed_line : Contains (lines mixed) (change_line 1 (codes "text") (codes " \"YO\""))
 unfolding digits
 mixed_line = (0, omega arith, refl)
 
 -- a text that was never on air
 is_mix : IsSafe 1 1 script mixed mixed → ⊥
 is_mix safe =
-    let shown = shown_in_1 mixed (codes "text") (codes " \"YO\"") mixed_line in
+    let shown = shown_in 1 mixed (codes "text") (codes " \"YO\"") mixed_line in
     let it = safe.values (codes "text") (codes "YO") (codes "YO") (inl refl) shown shown in
     not_another it.0 it.2.slot (omega (arith, it.2.past)) it.2.on_air
 
-abbrev early : List ℕ
+abbrev pub early : List ℕ
 early = codes "1 text \"HI\"\n1 tag1 ITEM.TITLE \"HI\"\n"
 
-early_lines : Contains (lines early) (change_line 1 (codes "text") (codes " \"HI\""))
+pub early_lines : Contains (lines early) (change_line 1 (codes "text") (codes " \"HI\""))
     × Contains (lines early) (change_line 1 (codes "tag1") (codes " ITEM.TITLE \"HI\""))
 unfolding digits
 early_lines = ((0, omega arith, refl), (1, omega arith, refl))
@@ -332,7 +332,7 @@ is_early safe =
     let content : List ℕ = codes " ITEM.TITLE \"HI\"" in
     let full : content ≢ codes " none" = λ e. (let bad : 73 ≡ 110 = ap (λ (l : List ℕ). get_or l 1 0) e in omega (arith, bad)) in
     let it = safe.tags (codes "tag1") (codes "HI") content (inl refl)
-    (shown_in_1 early (codes "text") (codes " \"HI\"") early_lines.0) (shown_in_1 early (codes "tag1") content early_lines.1) full in
+    (shown_in 1 early (codes "text") (codes " \"HI\"") early_lines.0) (shown_in 1 early (codes "tag1") content early_lines.1) full in
     tags_too_early it.0 (codes "HI") content it.2
 
 -- the headline says so of whatever reaches two receivers

@@ -17,3 +17,4 @@ pub mod HeadlineRows
 pub mod Headline
 pub mod NothingNew
 pub mod Kept
+pub mod KeptRows
