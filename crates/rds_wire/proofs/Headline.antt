@@ -1,13 +1,13 @@
 -- The headline.
 use Rattle.std.proofs.lemmas.Bool.Decides.{nat_tests}
-use Rattle.std.proofs.Common.{Bool, true, false, ◌≡◌, ◌⊎◌, ◌<◌, ◌≤◌, ◌+◌, ◌-◌, ◌++◌, ◌∷◌, [], ◌∙◌, ℕ, zero, suc, false, List}
-use Rattle.std.proofs.Common.{Option, None, Some, ap, arith, codes, decimal, length, refl, inl, inr, subst, sym, Contains}
-use Rattle.std.proofs.Common.{drop, append_assoc, get_or}
+use Rattle.std.proofs.Common.{Bool, true, false, ◌≡◌, ◌⊎◌, ◌<◌, ◌≤◌, ◌+◌, ◌-◌, ◌++◌, ◌∷◌, [], ◌∙◌, ℕ, zero, suc, List}
+use Rattle.std.proofs.Common.{Option, None, Some, ap, arith, codes, decimal, length, refl, inl, inr, subst, sym}
+use Rattle.std.proofs.Common.{Contains, append_assoc, get_or}
 use Rattle.std.proofs.lemmas.Bool.{cases_lt}
 use Rattle.std.proofs.lemmas.Grind.{reverse_onto}
 use Rattle.std.proofs.lemmas.List.{append_cancel_right, get_or-reverse, length-reverse, reverse-reverse, take-append-le}
 use Rattle.std.proofs.lemmas.Option.{same_Some}
-use Rattle.std.specs.Prelude.{◌≢◌, ◌&&◌, bytes_eq, if◌then◌else◌, nat_lt, reverse, slice_get, take}
+use Rattle.std.specs.Prelude.{◌≢◌, bytes_eq, if◌then◌else◌, reverse, slice_get, take}
 use Rattle.csv.specs.Machine.{Read, next_record, step, fields_after, field_after}
 use Rattle.csv.specs.Reading.{AreRecords, Reached, default_config, records_from, records_next, strip_bom}
 use Rattle.csv.specs.declared.parser.Config.{Config}
@@ -16,21 +16,21 @@ use Rattle.csv.specs.declared.parser.State.TheVariants.{StartRecord}
 use Rattle.rds_charset.specs.Printed.{printed}
 use Rattle.rds_encoder.specs.Plan.{Broadcast, Covers, HasNumber, plan_of}
 use Rattle.rds_view_lines.specs.Output.{Display, changes_of, none_content, quoted, tag_content}
-use Rattle.rds_fields.specs.Tag.{PairFields, TagFields, ends_in}
+use Rattle.rds_fields.specs.Tag.{PairFields, TagFields}
 use Rattle.rds_receiver.specs.Shown.{view_with}
 use Rattle.rds_receiver.specs.Tags.{cut_by}
-use Rattle.rds_view_lines.specs.ViewParts.{IsNothing, Item, Name, Part, Tag1, Tag2, Text, line_in, part_content, part_name}
+use Rattle.rds_view_lines.specs.ViewParts.{IsNothing, Item, Name, Part, Tag1, Tag2, Text, line_in, part_content}
+use Rattle.rds_view_lines.specs.ViewParts.{part_name}
 use Rattle.rds_log.specs.LogWrites.{LogWrites, plain, tuning_of}
 use Rattle.rds_lines.specs.LogLines.{Line}
-use Rattle.rds_wire.specs.Headline.{Air, Displays, Headline, OnAir, Receiver, Row, WasOnAir, WentWith, air, air_in, change_line}
-use Rattle.rds_wire.specs.Headline.{filled, in_quotes, lines, rows, slots, tag_shown}
+use Rattle.rds_wire.specs.Headline.{Air, Displays, Headline, OnAir, Receiver, Row, WasOnAir, WentWith, air, air_in}
+use Rattle.rds_wire.specs.Headline.{change_line, filled, in_quotes, lines, rows, slots, tag_shown}
 use Rattle.rds_wire.specs.Printed.{Prints, Shows}
 use Rattle.rds_wire.specs.Received.{IsReceived, first_entries}
-use Rattle.rds_wire.specs.Safe as wire
 use Rattle.rds_wire.specs.Safe.{AreSafe, IsOfPair, ShowNeighbours, ShowsBroadcast, StationPlans}
 use Rattle.rds_wire.specs.Wire.{Encodes, complete_in, WhatIsEncodedIsSafeOnTheWire, aired, station_of}
-use Rattle.rds_wire.proofs.ByRows.{Act, Do, acts, moves_of, on_air_by_rows, rows_do, same_moves, word_of}
-use Rattle.rds_world.specs.declared.world.Config as world
+use Rattle.rds_wire.proofs.ByRows.{Act, Do, acts, moves_of, on_air_by_rows, rows_do, same_moves, word_of, HasPair}
+use Rattle.rds_wire.proofs.ByRows.{pair_row}
 use Rattle.rds_world.specs.Event.{Event}
 use Rattle.rds_world.specs.Slots.{plans_of}
 use Rattle.rds_safety.specs.Plans.{Plans}
@@ -41,13 +41,13 @@ use Rattle.rds_fields.specs.TagGroup.{MayCarryTags}
 use Rattle.rds_lines.specs.LogSlots.{IsLogOf}
 use Rattle.rds_receiver.specs.declared.why.WhyNone.{WhyNone}
 use Rattle.rds_wire.proofs.Wired.{entry_at, rows_name_none}
-use Rattle.rds_wire.proofs.Newest.{shows_some}
-use Rattle.rds_wire.proofs.TagRows.{HasPair, pair_row}
+use Rattle.rds_wire.proofs.Reading.{shows_some, all_lines, are_lines, changes_text, lines_of}
 use Rattle.rds_safety.specs.Late.{HasEntry}
 use Rattle.rds_wire.proofs.Reached.{get_of_entry, lines_are, reaches_is_received, slots_long}
-use Rattle.rds_wire.proofs.Reading.{all_lines, are_lines, changes_text, lines_of}
 use Rattle.rds_wire.proofs.Logs.{empty_line, encoded_cut, groups_sent, is_log_of}
 use Rattle.rds_wire.proofs.Receiving.{displays_long, entry_in_first, first_all, first_more}
+use Rattle.rds_wire.specs.Safe as wire
+use Rattle.rds_world.specs.declared.world.Config as world
 
 -- ---- what the output displays
 
@@ -73,8 +73,7 @@ not_first slot word content cut (suc k, within, is) = (k, omega (arith, within),
 
 cut_of : (displays : List Display) (output : List ℕ) → output ≡ changes_of displays
     → lines output ≡ reverse ([] ∷ lines_of displays)
-cut_of displays output is =
-    ap lines (is ∙ changes_text displays) ∙ lines_are (lines_of displays) [] (all_lines displays) empty_line
+cut_of displays output is = grind (arith, nat_tests, changes_text, lines_are, lines_of, all_lines, empty_line)
 
 -- a line of the output is one of the lines of the displays
 pub of_output : (displays : List Display) (output : List ℕ) → output ≡ changes_of displays → (slot : ℕ) (part : Part)
@@ -113,12 +112,10 @@ second_byte None = refl
 second_byte (Some why) = refl
 
 pub not_nothing : (shown : List ℕ) → IsNothing (in_quotes shown) → ⊥
-not_nothing shown (why, is) =
-    let e : 34 ≡ 110 = ap (λ (l : List ℕ). get_or l 1 0) is ∙ second_byte why in omega (arith, e)
+not_nothing shown (why, is) = grind (arith, nat_tests, second_byte)
 
 pub same_printed : (shown bytes : List ℕ) → in_quotes shown ≡ quoted bytes → shown ≡ printed bytes
-same_printed shown bytes e =
-    append_cancel_right shown (printed bytes) (codes "\"") (ap (drop 2) e)
+same_printed shown bytes e = grind (arith, nat_tests, append_cancel_right)
 
 -- ---- the records of a script
 
@@ -327,12 +324,7 @@ with_shown Shown true content is some Tag2 of = is
 
 cut_shows : (tag : TagFields) (x content : List ℕ) → content ≡ tag_content (cut_by tag x) → content ≢ codes " none"
     → (0 < tag.class) × (content ≡ tag_shown x tag)
-cut_shows tag x content is some = by (nat_lt 0 tag.class && ends_in (length x) tag) refl
-  where
-    by : (b : Bool) → (nat_lt 0 tag.class && ends_in (length x) tag) ≡ b
-        → (0 < tag.class) × (content ≡ tag_shown x tag)
-    by true e = (grind (arith, nat_tests), is ∙ rw e refl)
-    by false e = absurd (some (is ∙ rw e refl))
+cut_shows tag x content is some = grind (arith, nat_tests)
 
 abbrev its_tag : Bool → PairFields → TagFields
 its_tag two pair = if two then pair.two else pair.one
@@ -351,17 +343,12 @@ rows_first : (config : world.Config) (n m : ℕ) (rows : List Row) (events : Lis
     → AreRows config n (first_entries m rows) (first_entries m events)
 rows_first config n m [] [] are = let none : List Row = [] in let empty : List Event = [] in rw (first_all m none (omega arith), first_all m empty (omega arith)) tt
 rows_first config n m (row ∷ before) (e ∷ older) are =
-    grind (arith, rows_first config n m before older are.2, first_all, first_more, rows_long config n before older are.2)
+    grind (arith, nat_tests, rows_first config n m before older are.2, first_all, first_more, rows_long)
 rows_first config n m _ _ are = absurd are
 
 first_first : {X : Type 0} (n m : ℕ) (xs : List X) → n ≤ m → first_entries n (first_entries m xs) ≡ first_entries n xs
 first_first n m [] less = ap (first_entries n) (first_all m [] (omega arith))
-first_first n m (x ∷ xs) less = elim (cases_lt (length xs) m) [
-  | inl all ↦ ap (first_entries n) (first_all m (x ∷ xs) (omega (arith, all)))
-  | inr more ↦
-      ap (first_entries n) (first_more m x xs more) ∙ first_first n m xs less
-      ∙ sym (first_more n x xs (omega (arith, less, more)))
-]
+first_first n m (x ∷ xs) less = grind (arith, nat_tests, first_first n m xs less, first_all, first_more)
 
 module _ (d t : ℕ) (script : List ℕ) (config : world.Config) (n : ℕ) (its : List Row) (events : List Event)
     (are : AreRows config n its events)

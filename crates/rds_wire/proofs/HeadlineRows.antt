@@ -23,8 +23,8 @@ use Rattle.rds_script.specs.Play.{ScriptWrites, with_form}
 use Rattle.rds_script.specs.Rows.{AreNumbers, numbers_of_pair}
 use Rattle.rds_script.specs.declared.form.Form.TheVariants.{Log}
 use Rattle.rds_wire.specs.Headline.{Displays, EndsIn, Headline, IsSafe, OnAir, Reaches, Row, WasOnAir, WentWith, air}
-use Rattle.rds_wire.specs.Headline.{air_in, argument_of, change_line, filled, has_word, in_quotes, is_group, lines, rows}
-use Rattle.rds_wire.specs.Headline.{slots, tag_shown}
+use Rattle.rds_wire.specs.Headline.{air_in, argument_of, change_line, filled, has_word, in_quotes, is_group, lines}
+use Rattle.rds_wire.specs.Headline.{rows, slots, tag_shown}
 use Rattle.rds_wire.specs.NothingNew.{NothingNew}
 use Rattle.rds_wire.specs.Wire.{IsHead, station_of}
 

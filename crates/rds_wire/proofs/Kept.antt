@@ -30,10 +30,9 @@ use Rattle.rds_wire.specs.Kept.{keeping}
 use Rattle.rds_wire.specs.NothingNew.{NothingNew, decoding}
 use Rattle.rds_wire.specs.Received.{first_entries}
 use Rattle.rds_wire.proofs.Headline.{displays_shows, not_nothing}
-use Rattle.rds_wire.proofs.Newest.{newest_line}
 use Rattle.rds_wire.proofs.NothingNew.{displays_newest, has_value, heard_first}
 use Rattle.rds_wire.proofs.Reached.{slots_long}
-use Rattle.rds_wire.proofs.Reading.{IsContentOf}
+use Rattle.rds_wire.proofs.Reading.{IsContentOf, newest_line}
 use Rattle.rds_wire.proofs.Receiving.{display_in, displays_long, first_length, view_in}
 use Rattle.rds_wire.proofs.Wired.{entry_at, shown as shown_by}
 

@@ -8,10 +8,7 @@ pub mod Runs
 pub mod Twice
 pub mod WorkedRows
 pub mod ByRows
-pub mod TagRows
-pub mod Newest
 pub mod MissesNothing
-pub mod Recorded
 pub mod Reached
 pub mod HeadlineRows
 pub mod Headline

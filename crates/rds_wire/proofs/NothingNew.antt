@@ -1,17 +1,17 @@
 -- The headline of audits.
-use Rattle.std.proofs.Common.{◌≡◌, ◌<◌, ◌≤◌, ◌+◌, ◌-◌, ◌^◌, ◌∙◌, ℕ, false}
-use Rattle.std.proofs.Common.{List, Option, None, Some, ap, arith, length, refl, inl, inr, subst, sym, map}
-use Rattle.rds_receiver.specs.Shown.{ShownView}
+use Rattle.std.proofs.Common.{◌≡◌, ◌<◌, ◌≤◌, ◌+◌, ◌-◌, ◌^◌, ◌∙◌, ℕ, false, List, Option, None, Some, ap, arith, length}
+use Rattle.std.proofs.Common.{refl, inl, inr, subst, sym, map}
+use Rattle.rds_receiver.specs.Shown.{ShownView, IsShown, ShowsView}
 use Rattle.rds_receiver.specs.declared.why.Whys.{Whys}
-use Rattle.rds_safety.specs.Late.{HasEntry}
+use Rattle.rds_safety.specs.Late.{HasEntry, InputOf}
 use Rattle.rds_safety.specs.Laws.{LawfulIsLawfulPadded, PlanLaws}
 use Rattle.rds_audit.specs.AuditLaws.{WhatPassesAsARecordingIsSafe, WhatPassesIsSafe}
 use Rattle.rds_audit.specs.declared.log_start.LogStart.{LogStart}
 use Rattle.rds_audit.specs.declared.log_start.LogStart.TheVariants.{Complete, Running}
 use Rattle.rds_audit.specs.Recording.{from_first_text, judged_as, preceded}
 use Rattle.rds_audit.specs.Rules.{LogPasses}
-use Rattle.rds_view_lines.specs.Output.{Display, changes_of}
-use Rattle.rds_view_lines.specs.ViewParts.{Name, Part, Text, line_in, part_content}
+use Rattle.rds_view_lines.specs.Output.{Display, changes_of, quoted, text_content, why_name, why_text}
+use Rattle.rds_view_lines.specs.ViewParts.{Name, Part, Text, line_in, part_content, part_name}
 use Rattle.std.specs.Prelude.{drop}
 use Rattle.std.proofs.lemmas.List.{drop-map}
 use lib.ListN.{length-map}
@@ -19,18 +19,15 @@ use Rattle.rds_block.specs.declared.group.Group.{Group}
 use Rattle.rds_fields.specs.declared.message.Message.{Message}
 use Rattle.rds_charset.specs.Printed.{printed}
 use Rattle.rds_assembly.specs.Cells.{Cells}
-use Rattle.rds_receiver.specs.Receipts.{heard_in, heard_of}
+use Rattle.rds_receiver.specs.Receipts.{heard_in, heard_of, name_fragment, text_fragment}
 use Rattle.rds_receiver.specs.Run.{cells_of, run_at}
-use Rattle.rds_receiver.specs.Shown.{IsShown, ShowsView}
 use Rattle.rds_receiver.specs.declared.fragment.Fragment.{Fragment}
 use Rattle.rds_receiver.specs.declared.why.WhyNone.{WhyNone}
-use Rattle.rds_safety.specs.Late.{InputOf}
 use Rattle.rds_safety.specs.Lawful.{IsLawful, names, padded_texts}
 use Rattle.rds_safety.specs.Plans.{AreLawfulAs, Plans}
 use Rattle.rds_safety.proofs.Padded.{padded_service}
 use Rattle.rds_safety.proofs.Safety.{name_fragments_marked, text_fragments_marked}
 use Rattle.rds_assembly.specs.Whole.{IsWholeName, IsWholeText}
-use Rattle.rds_receiver.specs.Receipts.{name_fragment, text_fragment}
 use Rattle.rds_audit.specs.Forms.{text_kind}
 use Rattle.rds_audit.specs.declared.text_form.TextForm.{TextForm}
 use Rattle.rds_audit.specs.declared.text_form.TextForm.TheVariants.{Padded, Plain}
@@ -41,20 +38,17 @@ use Rattle.rds_log.specs.Audit.{WholePasses, spacing}
 use Rattle.rds_log.specs.LogWrites.{AreDisplays, LogWrites, tuning_of}
 use Rattle.rds_log.specs.declared.audit_log.Auditing.{Auditing}
 use Rattle.rds_lines.specs.LogSlots.{IsLogOf}
-use Rattle.rds_view_lines.specs.Output.{quoted, text_content, why_name, why_text}
-use Rattle.rds_view_lines.specs.ViewParts.{part_name}
 use Rattle.rds_wire.specs.Headline.{Displays, Reaches, in_quotes, slots}
 use Rattle.rds_wire.specs.NothingNew.{NothingNew, decoding}
 use Rattle.rds_wire.specs.Received.{first_entries, own_group}
 use Rattle.rds_wire.proofs.Headline.{displays_shows, in_output, not_nothing, of_output, same_printed}
-use Rattle.rds_wire.proofs.Recorded.{IsShownByWhole, TagsSendNothing, by_whole, by_whole_recorded}
-use Rattle.rds_wire.proofs.MissesNothing.{names_agree, texts_agree}
+use Rattle.rds_wire.proofs.MissesNothing.{IsShownByWhole, TagsSendNothing, by_whole, by_whole_recorded, names_agree}
+use Rattle.rds_wire.proofs.MissesNothing.{texts_agree}
 use Rattle.rds_wire.proofs.Reached.{heard_late, origins_of, slots_long}
-use Rattle.rds_wire.proofs.Reading.{IsContentOf, contains_from_in, in_from_contains}
+use Rattle.rds_wire.proofs.Reading.{IsContentOf, contains_from_in, in_from_contains, HasNewest, newest_line, In}
+use Rattle.rds_wire.proofs.Reading.{lines_of}
 use Rattle.rds_wire.proofs.Receiving.{displays_long, first_length, late_groups, own_heard, view_in}
 use Rattle.rds_wire.proofs.Wired.{entry_at, shown as shown_by}
-use Rattle.rds_wire.proofs.Newest.{HasNewest, newest_line}
-use Rattle.rds_wire.proofs.Reading.{In, lines_of}
 
 -- ---- one part
 

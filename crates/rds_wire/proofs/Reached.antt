@@ -1,7 +1,7 @@
 -- What reaches a receiver of a log, line by line, is received slot by slot.
-use Rattle.std.proofs.Common.{◌≡◌, ◌≢◌, ◌⊎◌, ◌<◌, ◌≤◌, ◌+◌, ◌==◌, ◌++◌, ◌∷◌, [], ◌∙◌, ℕ, zero, suc, Bool, true}
-use Rattle.std.proofs.Common.{false, cond, List, Option, None, Some, ap, arith, length, refl, inl, inr, subst}
-use Rattle.std.proofs.Common.{append-nil, sym, All, map, get_or, slice_get}
+use Rattle.std.proofs.Common.{◌≡◌, ◌≢◌, ◌⊎◌, ◌<◌, ◌≤◌, ◌+◌, ◌==◌, ◌++◌, ◌∷◌, [], ◌∙◌, ℕ, zero, suc, Bool, true, false}
+use Rattle.std.proofs.Common.{cond, List, Option, None, Some, ap, arith, length, refl, inl, inr, subst, append-nil, sym}
+use Rattle.std.proofs.Common.{All, map, get_or, slice_get}
 use Rattle.std.proofs.lemmas.Bool.Decides.{nat_tests}
 use Rattle.std.proofs.lemmas.Grind.{reverse_onto}
 use Rattle.std.proofs.lemmas.List.{length-map, length-reverse, length-take-le, map-append}
@@ -76,9 +76,7 @@ filter_reverse p (x ∷ xs) =
 
 map_reverse : {X Y : Type 0} (f : X → Y) (xs : List X) → map f (reverse xs) ≡ reverse (map f xs)
 map_reverse f [] = refl
-map_reverse f (x ∷ xs) =
-    ap (map f) (reverse_onto xs x []) ∙ map-append f (reverse xs) (x ∷ [])
-    ∙ ap (λ l. l ++ f x ∷ []) (map_reverse f xs) ∙ sym (reverse_onto (map f xs) (f x) [])
+map_reverse f (x ∷ xs) = grind (arith, nat_tests, map_reverse f xs, reverse_onto, map-append)
 
 -- the blocks of the lines of the slots
 abbrev slots_of : List Line → List Line
@@ -143,8 +141,7 @@ first_byte : (line : Line) (said : Option Group) → LineSays line (Slot said)
 first_byte line said says = grind arith
 
 differs : (b c : ℕ) → (digit_value b < 16) ⊎ (b ≡ 45) → (digit_value c < 16 → ⊥) → c ≢ 45 → (b == c) ≡ false
-differs b c (inl digit) none other =
-    let no : b ≢ c = λ e. none (subst (λ x. digit_value x < 16) e digit) in grind (arith, nat_tests)
+differs b c (inl digit) none other = grind (arith, nat_tests)
 differs b c (inr dash) none other = grind (arith, nat_tests)
 
 -- the line of a slot is one
@@ -181,17 +178,7 @@ AreCapitals line other = (i : ℕ) → i < 19 → slice_index other i ≡ to_asc
 
 said_so : (line other : Line) (slot : Option Group) → AreCapitals line other → SaysSlot line slot
     → SaysSlot other slot
-said_so line other slot same s = record {
-  a = s.a;
-  b = s.b;
-  c = s.c;
-  d = s.d;
-  first = grind (arith, same_digit, s.first, same 0, same 1, same 2, same 3);
-  second = grind (arith, same_digit, s.second, same 5, same 6, same 7, same 8);
-  third = grind (arith, same_digit, s.third, same 10, same 11, same 12, same 13);
-  fourth = grind (arith, same_digit, s.fourth, same 15, same 16, same 17, same 18);
-  carried = s.carried;
-}
+said_so line other slot same s = grind (arith, nat_tests, same_digit)
 
 -- the words of a group
 says_words : (line : Line) (g : Group) → SaysSlot line (Some g)
@@ -286,8 +273,7 @@ blocks_say n line said says =
 said_by : (n : ℕ) (cut : List Line) (got : List (Option Group)) → AreSlots n cut got
     → AllZip (Says n) (slots_of cut) got
 said_by n [] got none = subst (AllZip (Says n) []) (sym none) tt
-said_by n (line ∷ before) got (inl (says, rest)) =
-    rw (skipped_line line says) (said_by n before got rest)
+said_by n (line ∷ before) got (inl (says, rest)) = grind (arith, nat_tests, said_by n before got rest, skipped_line)
 said_by n (line ∷ before) got (inr (said, older, says, is, rest)) =
     rw (slot_line line said says, is) (blocks_say n line said says, said_by n before older rest)
 
@@ -316,9 +302,9 @@ beside : {X : Type 0} (origin : ℕ → Option ℕ) (got : List (Option X)) (t :
     → ((from ≡ None) × (entry ≡ None)) ⊎ ((from ≡ origin t) × ((x : X) × (entry ≡ Some x)))
 beside origin [] t from entry p q = absurd p
 beside origin (None ∷ before) t from entry p q =
-    grind (arith, beside origin before t from entry, origins_long, before_end)
+    grind (arith, nat_tests, beside origin before t from entry, origins_long, before_end)
 beside origin (Some x ∷ before) t from entry p q =
-    grind (arith, beside origin before t from entry, origins_long, before_end)
+    grind (arith, nat_tests, beside origin before t from entry, origins_long, before_end)
 
 -- an origin is that of the slot, which has an entry
 of_slot : {X : Type 0} (origin : ℕ → Option ℕ) (got : List (Option X)) (t s : ℕ)

@@ -6,7 +6,6 @@ use Rattle.std.proofs.lemmas.List.Elements.{All-append, All-from_get_or, All-get
 use Rattle.rds_assembly.specs.Body.{name_body, space}
 use Rattle.rds_assembly.specs.Value.{IsGivenName, IsName, is_name_byte}
 use Rattle.rds_fields.specs.declared.message.Message.{Message}
-use Rattle.rds_fields.specs.declared.message.Message.TheVariants as message
 use Rattle.rds_fields.specs.Tag.{PairFields}
 use Rattle.rds_encoder.specs.Laws.{TagsAreOfTheTextOnAir}
 use Rattle.rds_encoder.specs.Tags.{pair_on_air}
@@ -59,6 +58,7 @@ use Rattle.rds_wire.specs.Wire.{Encodes, HasSafePlans, IsHead, IsSafeOnTheWire, 
 use Rattle.rds_wire.specs.Wire.{WhatPassesIsSafeOnTheWire, aired, planned, station_of}
 use Rattle.rds_wire.proofs.Reading.{In, are_lines, contains_from_in, in_from_contains, line_shows, lines_of, stays}
 use Rattle.rds_wire.proofs.Reading.{unshown, AreTagsUpTo, IsContentOf, shown_safely}
+use Rattle.rds_fields.specs.declared.message.Message.TheVariants as message
 
 -- ---- rows
 
