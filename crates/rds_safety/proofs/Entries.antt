@@ -160,7 +160,7 @@ each_on_time {X} log first heard origins late t entry a = search (arith, entry_b
         let same : s ≡ t = omega (arith, late.past t s o, late.late t s o) in
         inr (rw same at (late.order.each t (Some s) entry o a))
 
-own_long : {X : Type 0} (first : ℕ) (heard : List (Option X)) → length (own_origins first heard) ≡ length heard
+pub own_long : {X : Type 0} (first : ℕ) (heard : List (Option X)) → length (own_origins first heard) ≡ length heard
 own_long first [] = refl
 own_long first (x ∷ before) = grind (arith, own_long first before)
 

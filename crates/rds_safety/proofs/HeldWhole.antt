@@ -68,12 +68,12 @@ in_below n [] g falls is_in = absurd is_in
 in_below n (h ∷ older) g falls is_in = grind (arith, in_below h.slot older g falls.1)
 
 -- if one of the segments came in slot s or later, so did the newest one
-newest_since : (s : ℕ) (h : Segment) (older : List Segment) (g : Segment) → AreFalling h.slot older → s ≤ g.slot
+pub newest_since : (s : ℕ) (h : Segment) (older : List Segment) (g : Segment) → AreFalling h.slot older → s ≤ g.slot
     → IsIn (h ∷ older) g → s ≤ h.slot
 newest_since s h older g falls since is_in = grind (arith, in_below h.slot older g falls)
 
 -- the segments that came in slot s or later have the flag
-abbrev HaveFlag : Bool → ℕ → List Segment → Type 0
+abbrev pub HaveFlag : Bool → ℕ → List Segment → Type 0
 HaveFlag f s gs = AllByRecursion (λ (g : Segment). s ≤ g.slot → g.fragment.flag ≡ f) gs
 
 -- if slots s to t are at most m, the run in slot t has each segment that came in slot s or later

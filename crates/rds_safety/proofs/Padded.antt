@@ -77,11 +77,11 @@ no_return x t i h e = (let allowed = rw e at (t.allowed i h) in cc)
 -- ---- a run of a text with padding
 
 -- up to the end of the text, these are the bytes of the body at the address
-abbrev HoldsUpToEnd : List ℕ → ℕ → List ℕ → Type 0
+abbrev pub HoldsUpToEnd : List ℕ → ℕ → List ℕ → Type 0
 HoldsUpToEnd x a cell =
     (k : ℕ) → k < 4 → 4 * a + k ≤ length x → slice_index cell k ≡ slice_index (text_body x) (4 * a + k)
 
-all_hold : (x : List ℕ) (gs : List Segment) → AreParts padded_texts x gs
+pub all_hold : (x : List ℕ) (gs : List Segment) → AreParts padded_texts x gs
     → AllByRecursion (λ (g : Segment). HoldsUpToEnd x g.fragment.address g.fragment.bytes) gs
 all_hold x [] all = tt
 all_hold x (g ∷ older) all = (let bytes = all.0.bytes in (bytes, all_hold x older all.1))
