@@ -10,7 +10,7 @@ use Rattle.rds_fields.specs.declared.message.Message.{Message}
 use Rattle.rds_assembly.specs.Body.{name_body, segment_of, text_body}
 use Rattle.rds_assembly.specs.Cells.{Cells, HasByte}
 use Rattle.rds_assembly.specs.Whole.{IsWholeName, IsWholeText}
-use Rattle.rds_safety.proofs.Padded.{text_below, text_end}
+use Rattle.rds_safety.proofs.Padded.{HoldsUpToEnd, all_hold, text_below, text_end}
 use Rattle.rds_receiver.specs.Shown.{IsShown}
 use Rattle.rds_encoder.specs.Plan.{Broadcast, Covers, HasNumber}
 use Rattle.rds_receiver.specs.Receipts.{Segment, segments}
@@ -22,10 +22,10 @@ use Rattle.rds_safety.specs.Laws.{PlanLaws}
 use Rattle.rds_safety.specs.Lawful.{IsLawful, Kind, names, padded_texts}
 use Rattle.rds_safety.specs.Marks.{Mark, marks, IsMarkIn, Nothing, Sends, Tagged}
 use Rattle.rds_safety.specs.Near.{IsHeardNear, IsOfItsOriginIfMarked}
-use Rattle.rds_safety.proofs.Entries.{AreFalling, IsPicked, all_picked, arrival, late_hears, mark_sent, before_end}
+use Rattle.rds_safety.proofs.Entries.{own_long, AreFalling, IsPicked, all_picked, arrival, late_hears, mark_sent, before_end}
 use Rattle.rds_safety.proofs.Entries.{no_slot_late, one_origin, own_is_near, segments_fall, marks_long}
-use Rattle.rds_safety.proofs.HeldWhole.{IsIn, all_in, came_in, in_below, in_segments, one_covers}
-use Rattle.rds_safety.proofs.OneBroadcast.{AreOf, AreParts, IsSegmentOf, LiesInOne, PicksWhatIsMarked, RunLiesInOne}
+use Rattle.rds_safety.proofs.HeldWhole.{HaveFlag, newest_since, IsIn, all_in, came_in, in_below, in_segments, one_covers}
+use Rattle.rds_safety.proofs.OneBroadcast.{all_before, AreOf, AreParts, IsSegmentOf, LiesInOne, PicksWhatIsMarked, RunLiesInOne}
 use Rattle.rds_safety.proofs.OneBroadcast.{IsService, bytes_of_run, cell_has, get-put, heard_run_lies, is_marked}
 use Rattle.rds_wire.specs.Received.{first_entries}
 use Rattle.rds_wire.proofs.Receiving.{entry_in_first, entry_of_first, first_length, preceded_first}
@@ -39,15 +39,6 @@ use Rattle.rds_audit.specs.Recording.{counted_after, from_first_text, preceded}
 use Rattle.rds_wire.proofs.Twice.{entry_of_map}
 
 -- ---- a run without a gap
-
--- if one of the segments came in slot s or later, so did the newest one
-newest_since : (s : ℕ) (x : Segment) (older : List Segment) (g : Segment) → AreFalling x.slot older → s ≤ g.slot
-    → IsIn (x ∷ older) g → s ≤ x.slot
-newest_since s x older g falls since is_in = grind (arith, in_below x.slot older g falls)
-
--- the segments that came in slot s or later have the flag
-abbrev HaveFlag : Bool → ℕ → List Segment → Type 0
-HaveFlag f s gs = AllByRecursion (λ (g : Segment). s ≤ g.slot → g.fragment.flag ≡ f) gs
 
 module _ (d : ℕ) (f : Bool) (h : Segment) where
   -- before each slot after h, one of the segments came less than d slots before
@@ -105,11 +96,6 @@ close_run : (m t : ℕ) (gs : List Segment) → AreFalling (t + 1) gs → AreClo
 close_run m t [] falls = tt
 close_run m t (g ∷ older) falls = grind (arith, close_before)
 
-all_before : (P : Segment → Type 0) (m : ℕ) (f : Bool) (s : ℕ) (gs : List Segment) → AllByRecursion P gs
-    → AllByRecursion P (run_before m f s gs)
-all_before P m f s [] all = tt
-all_before P m f s (g ∷ older) all = grind (arith, all_before P m f g.slot older all.1)
-
 all_run : (P : Segment → Type 0) (m t : ℕ) (gs : List Segment) → AllByRecursion P gs → AllByRecursion P (run m t gs)
 all_run P m t [] all = tt
 all_run P m t (g ∷ older) all = grind (arith, all_before)
@@ -137,13 +123,9 @@ module _ (kind : Kind) (input : Input) (b : Broadcast) (m d : ℕ)
     ]
   ]
 
-own_long : {X : Type 0} (heard : List (Option X)) → length (own_origins 0 heard) ≡ length heard
-own_long [] = refl
-own_long (x ∷ before) = grind (arith, own_long before)
-
 own_slot : {X : Type 0} (heard : List (Option X)) (t s : ℕ) → HasEntry 0 (own_origins 0 heard) t (Some s) → s ≡ t
 own_slot [] t s from = absurd from
-own_slot (x ∷ before) t s from = grind (arith, own_slot before t s, own_long)
+own_slot (x ∷ before) t s from = grind (arith, own_slot before t s, own_long 0 before)
 
 -- the segments are of the value
 parts_of : (kind : Kind) (input : Input) (b : Broadcast) (gs : List Segment) → AreOf kind input b gs
@@ -354,16 +336,6 @@ module _ (laws : PlanLaws) (d m now : ℕ) (kind : Kind) (pick : Message → Opt
             ∙ ap (λ (c : Broadcast). c.bytes) (one h gs same lies) ∙ sym bytes)
 
 -- ---- texts and names
-
--- up to the end of the text, these are the bytes of its body at the address
-abbrev HoldsUpToEnd : List ℕ → ℕ → List ℕ → Type 0
-HoldsUpToEnd x a cell =
-    (k : ℕ) → k < 4 → 4 * a + k ≤ length x → slice_index cell k ≡ slice_index (text_body x) (4 * a + k)
-
-all_hold : (x : List ℕ) (gs : List Segment) → AreParts padded_texts x gs
-    → AllByRecursion (λ (g : Segment). HoldsUpToEnd x g.fragment.address g.fragment.bytes) gs
-all_hold x [] all = tt
-all_hold x (g ∷ older) all = (let bytes = all.0.bytes in (bytes, all_hold x older all.1))
 
 -- a byte that is held up to the end of the text is held in each other segments of it
 text_byte : (gs hs : List Segment) (x : List ℕ) → AreParts padded_texts x hs
