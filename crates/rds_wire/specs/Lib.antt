@@ -16,3 +16,5 @@ pub mod Program
 pub mod Mixes
 -- From the groups of any station to its messages.
 pub mod Groups
+-- The headline on a call.
+pub mod Trial

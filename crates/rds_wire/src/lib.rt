@@ -5,6 +5,7 @@
 #![tactic(auto)]
 
 mod laws;
+mod trials;
 
 pub use laws::{
     groups_are_heard_as_messages, nothing_new_is_displayed, the_headline, what_a_mix_means,
@@ -12,3 +13,4 @@ pub use laws::{
     what_is_encoded_is_safe_on_the_wire, what_is_received, what_passes_is_safe_if_heard_twice,
     what_passes_is_safe_on_the_wire, what_the_program_encodes_it_decodes_safely, what_was_on_air,
 };
+pub use trials::{Tried, trial};
