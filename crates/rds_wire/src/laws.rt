@@ -25,7 +25,8 @@ use rds_safety::{
 use rds_world::{a_station_is_safe, the_encoder_is_lawful};
 
 /// States the headline: whatever two receivers of the log of a script display in a slot was on air within the last
-/// M + K slots, and it is one text or two that follow each other; names likewise.
+/// M + K slots, and it is one text or two that follow each other; names likewise. Each tag was in a row that was accepted
+/// for the text beside it.
 pub fn the_headline()
     ensures { Headline }
 {

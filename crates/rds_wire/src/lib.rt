@@ -1,7 +1,8 @@
 //! The wire laws: whatever slots of a log are lost, and however late its groups come, up to K slots, what `decode`
 //! prints was on air lately. They hold for each log that `encode` writes, and for each log to which `audit` says yes.
 //!
-//! No crate of the program uses this one: it says what their promises mean together.
+//! No crate of the program uses this one: it says what their promises mean together. [`the_headline`] states it in one
+//! file, and [`trial`] on a call.
 #![tactic(auto)]
 
 mod laws;
