@@ -11,7 +11,8 @@ mod trials;
 pub use laws::{
     groups_are_heard_as_messages, nothing_new_is_displayed, the_headline, what_a_mix_means,
     what_is_asked_for_ran, what_is_encoded_is_safe_if_heard_twice,
-    what_is_encoded_is_safe_on_the_wire, what_is_received, what_passes_is_safe_if_heard_twice,
-    what_passes_is_safe_on_the_wire, what_the_program_encodes_it_decodes_safely, what_was_on_air,
+    what_is_encoded_is_safe_on_the_wire, what_is_kept_was_displayed, what_is_received,
+    what_passes_is_safe_if_heard_twice, what_passes_is_safe_on_the_wire,
+    what_the_program_encodes_it_decodes_safely, what_was_on_air,
 };
 pub use trials::{Tried, trial};
