@@ -42,6 +42,7 @@ class Repository(Case):
             else:
                 shutil.copy(path(name), to)
         self.change("CHANGELOG.md", r"^## .*$", f"## {VERSION} (2026-12-24)")
+        self.change("ABOUT", r"^maintainer:.*$", "maintainer: Ada <ada@example.org>")
         self.commit()
 
     def change(self, name, old, new):
@@ -82,12 +83,14 @@ class Obstacles(Repository):
             with open(os.path.join(self.tree, name), "w", encoding="utf-8") as file:
                 file.write(before)
 
-    def test_a_release_needs_a_date_a_tag_and_a_commit(self):
+    def test_a_release_needs_a_date_a_tag_a_maintainer_and_a_commit(self):
         self.change("CHANGELOG.md", r"^## .*$", f"## {VERSION} (2026-12-24, not released)")
+        self.change("ABOUT", r"^maintainer:.*$", "maintainer:")
         self.commit(tag=False)
         self.check("a snapshot", self.obstacles(True), [])
         self.check("a release", self.obstacles(), [f"CHANGELOG.md does not begin with ## {VERSION} (YYYY-MM-DD)",
-                                                   f"the commit has no tag v{VERSION}; --snapshot needs none"])
+                                                   f"the commit has no tag v{VERSION}; --snapshot needs none",
+                                                   "ABOUT names no maintainer; --snapshot needs none"])
         self.change("README.md", "rdsrt", "RDSRT")
         self.check("a change", self.obstacles(True), ["commit your changes first: a release is made of a commit"])
 

@@ -12,7 +12,7 @@ from tests.support import (ARCHIVE, PROGRAM, ROOT, SECONDS, Case, build_archive,
                            temporary_folder, text_of)
 
 SHIPPED = path("tools/shipped.py")
-FIELDS = ("version", "homepage", "reports")
+ADDRESSES = ("homepage", "reports")
 VERSION = c_library.header_version()
 
 
@@ -86,11 +86,12 @@ class Pages(Case):
 
 
 class About(Case):
-    """The man page, the Debian packages and the wheel of a repository whose file ABOUT has an address or has none."""
+    """The man page, the Debian packages and the wheel of a repository by its file ABOUT, which has an address or has none."""
     FILES = ("CHANGELOG.md", "docs", "examples", "include", "python", "tools")
     ADDRESS = {"homepage": "https://example.org/rdsrt", "reports": "https://example.org/rdsrt/issues"}
+    MAINTAINER = "Ada Lovelace <ada@example.org>"
 
-    def repository(self, address):
+    def repository(self, address, maintainer=MAINTAINER):
         """Returns a folder with the files that packages are made of, for x86-64 as this machine's own."""
         tree = temporary_folder(self)
         for name in self.FILES:
@@ -99,7 +100,8 @@ class About(Case):
             else:
                 shutil.copy(path(name), tree)
         with open(os.path.join(tree, "ABOUT"), "w", encoding="utf-8") as file:
-            file.write(f"# a comment\nversion: {VERSION}\n" + "".join(f"{it}: {address.get(it, '')}\n" for it in FIELDS[1:]))
+            file.write(f"# a comment\nversion: {VERSION}\n" + "".join(f"{it}: {address.get(it, '')}\n" for it in ADDRESSES)
+                       + f"maintainer: {maintainer}\n")
         for name, built in (("rdsrt/out/x86_64/rdsrt", PROGRAM), ("rds_ffi/out/x86_64/librds_ffi.a", ARCHIVE)):
             at = os.path.join(tree, "crates", name)
             os.makedirs(os.path.dirname(at))
@@ -112,11 +114,13 @@ class About(Case):
         build_archive()
         for address in ({}, self.ADDRESS):
             tree, out = self.repository(address), temporary_folder(self)
-            self.check("tools/about", [about(it, tree) for it in FIELDS], [VERSION, *(address.get(it, "") for it in FIELDS[1:])])
+            self.check("tools/about", [about(it, tree) for it in ("version", *ADDRESSES, "maintainer")],
+                       [VERSION, *(address.get(it, "") for it in ADDRESSES), self.MAINTAINER])
             self.check("tools/deb", output([f"{tree}/tools/deb", "x86_64", out])[0], 0)
             deb = os.path.join(out, f"rdsrt_{VERSION}-0upstream1_amd64.deb")
             self.check("Homepage", output(["dpkg-deb", "-f", deb, "Homepage"])[1].decode().split(),
                        [*address.values()][:1])
+            self.check("Maintainer", output(["dpkg-deb", "-f", deb, "Maintainer"])[1].decode().strip(), self.MAINTAINER)
             self.assertEqual(output(["dpkg-deb", "-x", deb, out])[0], 0)
             with gzip.open(os.path.join(out, "usr/share/man/man1/rdsrt.1.gz"), "rt", encoding="utf-8") as file:
                 bugs = re.findall(r"\.SH BUGS\nReport bugs at (.*)\.\n", file.read())
@@ -144,7 +148,7 @@ class About(Case):
     def test_a_snapshot_sorts_below_its_version(self):
         """The Debian packages, and the wheel as pip compares versions."""
         build_archive()
-        tree, out = self.repository({}), temporary_folder(self)
+        tree, out = self.repository({}, ""), temporary_folder(self)
         names = {**os.environ, "RDSRT_SNAPSHOT": "20261129101530.g9058da50"}
         self.check("tools/deb", output([f"{tree}/tools/deb", "x86_64", out], env=names)[0], 0)
         found = {output(["dpkg-deb", "-f", it, "Version"])[1].decode().strip() for it in glob.glob(f"{out}/*.deb")}
@@ -161,6 +165,13 @@ class About(Case):
                 "sys.exit(not Version(sys.argv[1]) < Version(sys.argv[2]))")
         self.check("pip", output([python[1].decode().strip(), "-c", code, version, VERSION])[0], 0)
 
+    @needs("dpkg-deb", "x86_64-linux-gnu-gcc", package="gcc binutils")
+    def test_only_a_snapshot_needs_no_maintainer(self):
+        """test_a_snapshot_sorts_below_its_version makes one."""
+        tree, out = self.repository({}, ""), temporary_folder(self)
+        self.check("tools/deb", output([f"{tree}/tools/deb", "x86_64", out]), (1, b"tools/deb: ABOUT names no maintainer\n"))
+        self.check("no package is made", os.listdir(out), [])
+
     def test_readme_has_the_address(self):
-        for field in FIELDS[1:]:
+        for field in ADDRESSES:
             self.check(f"README has the {field} of ABOUT", about(field) in text_of("README.md"), True)
