@@ -35,7 +35,8 @@ def encoder(answers=b""):
 
     def listen():
         connection, _ = server.accept()
-        with connection:
+        # a program that ends before it has read all answers resets the connection, once it has sent its commands
+        with connection, contextlib.suppress(ConnectionResetError):
             connection.sendall(answers)
             while piece := connection.recv(1 << 16):
                 got.append(piece)
