@@ -1,4 +1,5 @@
-"""The pages of a package where its files lie: each link leads somewhere, and each command prints the lines under it.
+"""The pages of a package where its files lie: each link leads somewhere, and each command prints the lines under it. And
+what a user of the packages types first.
 
 test_shipped plays them over the files of this checkout, and tests/release in a fresh Debian.
 """
@@ -13,6 +14,20 @@ from tests.support import text_of
 
 # a name of a file or a folder of a package, in code
 NAMED = re.compile(r"`((?:bin|include|lib|share|/usr/share)/[\w./-]*)`")
+
+# calls in a folder of the user, and their output; $examples is the folder of the examples
+USES = [
+    ("decode", "rdsrt decode --pi C201 < $examples/hi.log", '0 text "HI"\n'),
+    ("encode and audit",
+     "rdsrt encode --pi C201 --pty 10 --m 8 < $examples/chanson.csv | rdsrt audit --pi C201 --m 8", "yes 18\n"),
+    ("slots", "echo 'C201 2140 4849 0D20 1.0' | rdsrt slots | rdsrt decode --pi C201", '0 text "HI"\n'),
+    ("station", "echo 'N’ Roses' > now.txt && "
+     "$examples/station --no-empty-first --at-once --slots 2 --m 1 now.txt | tail -n 1", "text,\"N' Roses\",0,\n"),
+    ("JSON", "rdsrt decode --pi F201 < $examples/accents.log | rdsrt-json --pi F201 | "
+     "jq -r 'select(.radiotext) | .radiotext' | head -n 1", "Beyoncé - Déjà Vu\n"),
+    ("monitor", "echo JAZZ C201 > stations && echo JAZZ C201 2140 4849 0D20 | rdsrt-monitor stations | jq -r .radiotext",
+     "HI\n"),
+]
 
 
 def pages(tree):

@@ -7,7 +7,7 @@ import shutil
 import subprocess
 import zipfile
 
-from tests import c_library, shipped_pages
+from tests import c_library, package, shipped_pages
 from tests.support import (ARCHIVE, PROGRAM, ROOT, SECONDS, Case, build_archive, commit, needs, output, path,
                            temporary_folder, text_of)
 
@@ -16,11 +16,11 @@ ADDRESSES = ("homepage", "reports")
 VERSION = c_library.header_version()
 
 
-def played(tree):
+def played(tree, environment=None):
     """Returns a function that plays lines of sh at the top of the tree."""
     def run(call):
         done = subprocess.run(["sh", "-c", call], cwd=tree, stdout=subprocess.PIPE, stderr=subprocess.DEVNULL,
-                              timeout=SECONDS)
+                              timeout=SECONDS, env=environment)
         return done.stdout.decode()
     return run
 
@@ -83,6 +83,19 @@ class Pages(Case):
         self.check("its words", "exec rdsrt-monitor --metrics /var/lib/rdsrt/rdsrt.prom /etc/rdsrt/stations" in text,
                    True)
         self.check("systemd-analyze", output(["systemd-analyze", "verify", unit]), (0, b""))
+
+
+class Uses(package.PackageCase):
+    @needs("jq", package="jq")
+    def test_what_a_user_of_the_packages_types_first(self):
+        """tests/release does the same where they are installed."""
+        folder, programs = temporary_folder(self), temporary_folder(self)
+        for name, at in (("rdsrt", PROGRAM), ("rdsrt-json", path("examples/json")), ("rdsrt-monitor", path("examples/monitor"))):
+            os.symlink(at, os.path.join(programs, name))
+        names = {**self.names, "PATH": programs + os.pathsep + os.environ["PATH"], "LC_ALL": "C.UTF-8",
+                 "examples": path("examples")}
+        for name, call, wanted in shipped_pages.USES:
+            self.check(name, played(folder, names)(call), wanted)
 
 
 class About(Case):
