@@ -12,16 +12,8 @@ ARM = targets.ALL["aarch64"]
 COMPILER = f"{ARM.prefix}gcc"
 EMULATOR = "qemu-aarch64"
 LOADER = "ld-linux-aarch64.so.1"
-
-
-def why_missing():
-    """Returns what this machine lacks to build and run programs for 64-bit Arm, or None."""
-    for tool in (COMPILER, EMULATOR):
-        if shutil.which(tool) is None:
-            return f"no {tool} here"
-    if not all(os.path.isabs(place_of(it)) for it in (LOADER, "crti.o")):
-        return "no C library for 64-bit Arm here (apt-get install libc6-dev-arm64-cross)"
-    return None
+# what builds and runs these programs
+PACKAGES = "g++-aarch64-linux-gnu", "libc6-dev-arm64-cross", "qemu-user"
 
 
 def place_of(file):

@@ -13,20 +13,14 @@ import threading
 
 # it also lets Python look among Debian's packages
 from tests import browser
+from tests.needed import program_of
 
 try:
     import websocket
 except ImportError:
     websocket = None
 
-PACKAGES = "firefox-esr python3-websocket"
-NAMES = ("firefox-esr", "firefox")
 PREFERENCES = {"ui.prefersReducedMotion": 1, "browser.shell.checkDefaultBrowser": False}
-
-
-def program():
-    """Returns the browser of this machine; None if the browser or the package is missing."""
-    return browser.first_of(NAMES) if websocket else None
 
 
 def value_of(remote):
@@ -46,7 +40,7 @@ class Browser(browser.Driven):
         with open(os.path.join(self.folder, "user.js"), "w", encoding="utf-8") as prefs:
             prefs.writelines(f"user_pref({json.dumps(name)}, {json.dumps(value)});\n"
                              for name, value in PREFERENCES.items())
-        words = [program(), "--headless", "--remote-debugging-port", "0", "--profile", self.folder]
+        words = [program_of("firefox-esr"), "--headless", "--remote-debugging-port", "0", "--profile", self.folder]
         self.process = subprocess.Popen(words, stdout=subprocess.DEVNULL, stderr=subprocess.PIPE)
         host, port = self.address()
         # Firefox refuses a client that names an origin

@@ -6,9 +6,9 @@ import shutil
 import subprocess
 import sys
 import tempfile
-import unittest
 
-from tests.support import ARCHIVE, PROGRAM, SECONDS, Case, build_archive, missing, path, temporary_folder
+from tests.needed import needs
+from tests.support import ARCHIVE, PROGRAM, SECONDS, Case, build_archive, path, temporary_folder
 
 SOURCES = path("python/src")
 
@@ -67,12 +67,11 @@ def environment_of_process():
     return environment(shared_library(folder))
 
 
+@needs("gcc")
 class PackageCase(Case):
     """Tests with the package: `names` is the environment, `folder` the folder of the library."""
 
     @classmethod
     def setUpClass(cls):
-        if missing("cc"):
-            raise unittest.SkipTest(missing("cc"))
         cls.folder = temporary_folder(cls)
         cls.names = environment(shared_library(cls.folder))

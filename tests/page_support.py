@@ -14,6 +14,7 @@ import unittest
 import zlib
 
 from tests import browser, firefox
+from tests.needed import needs
 from tests.support import PROGRAM, SECONDS, Case, bytes_of, path, why_not_tested
 
 FOLDER = os.path.abspath(os.environ.get("RDSRT_PAGE") or path("page/out"))
@@ -222,11 +223,6 @@ def why_no_page():
 # ---- the browsers
 
 
-def browsers():
-    """Returns the drivers of the browsers that this machine has."""
-    return [it for it in (browser, firefox) if it.program()]
-
-
 class PageCase(Case):
     """A test of the page in one browser: `b` drives it."""
 
@@ -234,12 +230,10 @@ class PageCase(Case):
     most = 2
     # whether the console must stay empty, and nothing may be fetched
     is_quiet = True
-    driver, name, packages = None, None, None
+    driver, name = None, None
 
     @classmethod
     def setUpClass(cls):
-        if not cls.driver.program():
-            raise unittest.SkipTest(f"{cls.name} cannot be driven here (apt-get install {cls.packages})")
         if why_no_page():
             raise RuntimeError(why_no_page())
         cls.b = cls.driver.Browser()
@@ -266,13 +260,15 @@ class PageCase(Case):
         self.check("and these are in its folder", sorted(here - set(os.listdir(FOLDER))), [])
 
 
+@needs("chromium", "chromium-driver", "python3-selenium")
 class ChromiumCase(PageCase):
-    driver, name, packages = browser, "Chromium", browser.PACKAGES
+    driver, name = browser, "Chromium"
 
     def setUp(self):
         self.b.scheme("light")
         super().setUp()
 
 
+@needs("firefox-esr", "python3-websocket")
 class FirefoxCase(PageCase):
-    driver, name, packages = firefox, "Firefox", firefox.PACKAGES
+    driver, name = firefox, "Firefox"

@@ -2,7 +2,6 @@
 log of any length. A text has the segments that were sent if some length fits all of their bytes: bytes of a text before
 its end, a carriage return at its end if that is before 64, and anything behind it."""
 import functools
-import random
 
 from tests import plain_audit
 

@@ -13,7 +13,6 @@ from tests.support import PROGRAM, path
 
 TRANSMIT, RECEIVE = path("examples/fm/transmit"), path("examples/fm/receive")
 AIR, DONGLE = path("tests/air"), path("tests/dongle")
-PYTHON = "/usr/bin/python3"                                  # the one that sees Debian's packages
 LOST = "---- ---- ---- ----"
 SECONDS = 600
 SAMPLES_A_SLOT = 104 * 144
@@ -23,14 +22,6 @@ WORDS = "ABBA WATERLOO NEWS JAZZ WEATHER SONG NIGHT TRAIN SUN MOON RIVER HOUSE".
 # of wrong bits that is corrected in a block
 Case = collections.namedtuple("Case", "name slots dwell decibels seed fades other correct", defaults=[0])
 Heard = collections.namedtuple("Heard", "texts sent lines")
-
-
-def is_there():
-    """Returns whether numpy is installed."""
-    try:
-        return subprocess.run([PYTHON, "-c", "import numpy"], capture_output=True).returncode == 0
-    except OSError:
-        return False
 
 
 def fades(seed, slots, shortest, longest, between=60):

@@ -26,6 +26,8 @@ ROOT = os.path.dirname(os.path.dirname(os.path.abspath(__file__)))
 sys.path.insert(1, os.path.join(ROOT, "tools"))
 from crates import is_stale, listed
 
+from tests.needed import missing
+
 TARGET, UNPROVED = os.environ.get("RDSRT_TARGET"), os.environ.get("RDSRT_UNPROVED")
 # the number of the one case that is tried of those by chance
 ONLY = os.environ.get("RDSRT_CASE")
@@ -76,8 +78,8 @@ def output(words, given=b"", seconds=300, **more):
 def target_program():
     """Builds the program for the target. Returns the path of a script that runs it under the emulator."""
     from tests import emulated
-    if emulated.why_missing():
-        sys.exit(f"no {TARGET} here: {emulated.why_missing()}")
+    if missing(*emulated.PACKAGES):
+        sys.exit(f"{TARGET}: {missing(*emulated.PACKAGES)}")
     status, printed = output([BUILD, "--target", TARGET], seconds=3600)
     if status:
         sys.exit(f"the program for {TARGET} is not built: {printed[-2000:].decode()}")
@@ -99,8 +101,8 @@ def proved_program():
     made = "crates/rdsrt/out/rdsrt"
     why = why_not_tested(made, "rdsrt")
     if why:
-        sys.exit(f"{why}: tools/build proves and builds it. To test an unproved build of the sources, in 1 to 2 minutes: "
-                 "python3 -m tests --unproved, or RDSRT_UNPROVED=1 python3 -m unittest")
+        sys.exit(f"{why}: tools/build proves and builds it. To test an unproved build of the sources, in 40 seconds to 2 "
+                 "minutes: python3 -m tests --unproved, or RDSRT_UNPROVED=1 python3 -m unittest")
     return path(made)
 
 
@@ -151,17 +153,6 @@ def build_archive(target=None):
 
 
 # ---- the tests
-
-
-def missing(*programs, package=None):
-    """Returns which of these programs is not installed, with advice, or None."""
-    name = next((it for it in programs if shutil.which(it) is None), None)
-    return name and f"no {name} here" + (f" (apt-get install {package})" if package else "")
-
-
-def needs(*programs, package=None):
-    """Skips a test with a message if one of these programs is not installed."""
-    return unittest.skipIf(missing(*programs), missing(*programs, package=package))
 
 
 def needs_proved(test):

@@ -3,15 +3,15 @@ import os
 import re
 import subprocess
 import sys
-import unittest
 
 from tests import c_library, emulated
-from tests.support import INSTALL, ROOT, Case, build_archive, bytes_of, missing, needs, output, temporary_folder, text_of
+from tests.needed import needs
+from tests.support import INSTALL, ROOT, Case, build_archive, bytes_of, output, temporary_folder, text_of
 
 ARM = emulated.ARM
 # the modules of the program that take seconds under the emulator
 SHORT = ("test_help", "test_worked_rows", "test_status", "test_pipes")
-needs_an_emulator = unittest.skipIf(emulated.why_missing(), emulated.why_missing())
+needs_an_emulator = needs(*emulated.PACKAGES)
 
 
 @needs_an_emulator
@@ -25,8 +25,6 @@ class Library(Case):
 
     def build_and_run(self, compiler, language):
         compiler = ARM.prefix + compiler
-        if missing(compiler):
-            self.skipTest(missing(compiler))
         folder, how = temporary_folder(self), " ".join([compiler, *language])
         c_library.built(self.check, how, compiler, language, folder, self.library)
         c_library.run_all(self.check, how, folder, self.given, emulated.runner())
@@ -49,7 +47,7 @@ class Program(Case):
     def test_the_short_tests_of_the_program_pass(self):
         words = [sys.executable, "-B", "-m", "tests", "--target", ARM.name, *SHORT]
         done = subprocess.run(words, cwd=ROOT, stdout=subprocess.PIPE, text=True)
-        *reports, last = done.stdout.splitlines() or [""]
+        *reports, last = [it for it in done.stdout.splitlines() if not it.startswith("== ")] or [""]
         print("".join(f"for 64-bit Arm: {it}\n" for it in reports), end="")
         counts = re.fullmatch(r"(\d+) passed, 0 failed, 0 skipped", last)
         self.check("the last line and the status", (last if not counts else int(counts[1]) > 10, done.returncode),

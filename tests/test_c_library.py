@@ -5,8 +5,8 @@ import sys
 import tempfile
 
 from tests import c_library, package
-from tests.support import (ARCHIVE, INSTALL, Case, build_archive, bytes_of, missing, needs, output, path, ran,
-                           temporary_folder, text_of)
+from tests.needed import needs
+from tests.support import ARCHIVE, INSTALL, Case, build_archive, bytes_of, output, path, ran, temporary_folder, text_of
 
 
 class Header(Case):
@@ -22,11 +22,11 @@ class Archive(Case):
     def setUpClass(cls):
         build_archive()
 
-    @needs("nm", "readelf")
+    @needs("binutils")
     def test_it_exports_the_calls_of_the_header_and_needs_and_writes_nothing_else(self):
         c_library.archive(self.check)
 
-    @needs("objdump")
+    @needs("binutils")
     def test_the_header_has_the_stack_of_each_call(self):
         c_library.stack(self.check, ARCHIVE, "", 1)
 
@@ -34,21 +34,19 @@ class Archive(Case):
         tried = re.findall(r"\b(rdsrt_\w+)\(", text_of("tests/c/any_bytes.c"))
         self.check("calls without a try", c_library.declared() - {*tried}, set())
 
-    @needs("clang")
+    @needs("clang", "libclang-rt-dev")
     def test_the_line_of_security_runs_a_fuzzer(self):
         folder = temporary_folder(self)
         line, = re.findall(r"^    (clang .*) && \./fuzz$", text_of("SECURITY.md"), re.M)
         *words, name = line.split()
         self.check("what it makes", name, "fuzz")
         fuzzer = os.path.join(folder, name)
-        with_none = [*words[:words.index("-Iinclude")], "-x", "c", "-", "-o", fuzzer]
-        if output(with_none, b"int LLVMFuzzerTestOneInput(void) { return 0; }")[0]:
-            self.skipTest("no libFuzzer of clang here (apt-get install libclang-rt-dev)")
         self.check("it is built", output([*words, fuzzer], cwd=path(".")), (0, b""))
         status, said = output([fuzzer, "-seed=1", "-runs=100000", "-timeout=20"], cwd=folder)
         self.check("no call does harm", (status, b"\nDone 100000 runs" in said), (0, True), said)
 
 
+@needs("gcc", "libc6-dev")
 class Compilers(Case):
     """The programs of C do what rdsrt does, as each compiler builds them."""
 
@@ -58,8 +56,6 @@ class Compilers(Case):
         cls.given = c_library.inputs()
 
     def build_and_run(self, compiler, language):
-        if missing(compiler):
-            self.skipTest(missing(compiler))
         folder, how = temporary_folder(self), " ".join([compiler, *language])
         if c_library.SANITIZED[1] in language and not c_library.sanitizes(compiler, folder):
             self.skipTest(f"no sanitizers of {compiler} here")
@@ -69,9 +65,11 @@ class Compilers(Case):
     def test_c11(self):
         self.build_and_run("cc", ["-std=c11"])
 
+    @needs("g++")
     def test_cpp17(self):
         self.build_and_run("c++", ["-std=c++17", "-x", "c++"])
 
+    @needs("clang")
     def test_clang(self):
         self.build_and_run("clang", ["-std=c11"])
 
@@ -79,7 +77,7 @@ class Compilers(Case):
         self.build_and_run("cc", ["-std=c11", *c_library.SANITIZED])
 
 
-@needs("cc", "pkg-config")
+@needs("gcc", "pkg-config")
 class Install(Case):
     """A fresh prefix, which is moved before it is used: the files for pkg-config and CMake find the prefix where it
     is."""
@@ -98,7 +96,7 @@ class Install(Case):
         self.check("what is installed", self.files, c_library.INSTALLED)
         self.check("what lies beside the prefix", self.beside, ["prefix"])
 
-    @needs("nm")
+    @needs("binutils")
     def test_the_shared_library_exports_the_calls_of_the_list(self):
         listed = re.findall(r"^ +(rdsrt_\w+);$", text_of("include/rdsrt.map"), re.M)
         self.check("the list has the calls of the header", sorted(listed), sorted(c_library.declared()))

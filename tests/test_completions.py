@@ -5,7 +5,8 @@ import shutil
 import subprocess
 import tempfile
 
-from tests.support import PROGRAM, SECONDS, Case, needs, path, text_of
+from tests.needed import needs
+from tests.support import PROGRAM, SECONDS, Case, path, text_of
 
 FOLDER = path("tools/completions")
 FILES = {"bash": "rdsrt.bash", "zsh": "_rdsrt", "fish": "rdsrt.fish"}
@@ -87,7 +88,6 @@ class Completions(Case):
         for command, summary in summaries().items():
             self.check(f"{shell}: what {command} does", summary in text, True)
 
-    @needs("bash")
     def test_bash_offers_the_commands_and_the_long_options(self):
         self.compare("bash", by_bash, drop=r"-\w")
 
@@ -99,7 +99,7 @@ class Completions(Case):
     def test_fish_offers_the_commands_and_options(self):
         self.compare("fish", by_fish)
 
-    @needs("bash", "fish")
+    @needs("fish")
     def test_each_command_takes_a_file(self):
         script = os.path.join(FOLDER, FILES["bash"])
         for command in {*summaries()} - {"help"}:

@@ -12,8 +12,9 @@ import subprocess
 import sys
 
 from tests import c_library, radio
+from tests.needed import needs
 from tests.package import PackageCase
-from tests.support import ARCHIVE, PROGRAM, needs, output, path, ran, text_of
+from tests.support import ARCHIVE, output, path, ran, text_of
 
 SEED, SECONDS = 20261129, 120
 ROWS, DWELLS = 3000, (8, 16, 64)
@@ -156,10 +157,8 @@ class DamagedLines(PackageCase):
                                    for slot, it in enumerate(bad) if it != LOST))
             self.check(f"tuner, M {dwell}", (status, shown), (1, b""))
 
-    @needs("cc")
+    @needs("python3-numpy")
     def test_the_transmitter_ends_at_the_first_damaged_line(self):
-        if not radio.is_there():
-            self.skipTest("no numpy here (apt-get install python3-numpy)")
         bad, _ = self.logs[DWELLS[0]]
         words = [radio.TRANSMIT, "--pi", "C201"]
         whole = subprocess.run(words, input=log_of(bad[:2]), stdout=subprocess.PIPE, timeout=SECONDS).stdout

@@ -12,10 +12,10 @@ import select
 import shlex
 import subprocess
 import time
-import unittest
 
 from tests import radio
-from tests.support import Case, needs, path, temporary_folder, text_of
+from tests.needed import PYTHON, needs
+from tests.support import Case, path, temporary_folder, text_of
 from tests.test_commands import ran
 
 BUFFER = 16_384                                              # samples
@@ -50,7 +50,7 @@ def transmitted(log):
                           timeout=radio.SECONDS).stdout
 
 
-@unittest.skipUnless(radio.is_there(), "no numpy here (apt-get install python3-numpy)")
+@needs("python3-numpy")
 class Fm(Case):
     def test_no_fade(self):
         self.loop(radio.Case("no fade", 600, 32, 10, 1, [], False))
@@ -163,7 +163,7 @@ class Fm(Case):
             self.check("receive to full output", done.returncode, 1)
 
 
-@unittest.skipUnless(radio.is_there(), "no numpy here (apt-get install python3-numpy)")
+@needs("python3-numpy")
 class EndToEnd(Case):
     """A script, encode, transmit, the air, a dongle whose clock is 40 ppm slow, receive and decode."""
 
@@ -184,7 +184,7 @@ class EndToEnd(Case):
             self.check(f"{decibels} dB: some without the lost lines", bool(mixed), True)
 
 
-@unittest.skipUnless(radio.is_there(), "no numpy here (apt-get install python3-numpy)")
+@needs("python3-numpy")
 class Live(Case):
     def test_samples_that_a_tuner_dropped_are_counted(self):
         """rtl_fm drops whole buffers of 96 ms. With --live no slot is missing then; without it some are."""
@@ -194,7 +194,7 @@ class Live(Case):
         steps = {}
         for words in (("--live",), ()):
             kept = [it for it in range(len(buffers)) if it not in DROPPED]
-            call = [radio.PYTHON, "-c", BY_BUFFERS, repr(kept), radio.RECEIVE, *words, "--pi", "C201"]
+            call = [PYTHON, "-c", BY_BUFFERS, repr(kept), radio.RECEIVE, *words, "--pi", "C201"]
             lines = subprocess.run(call, input=b"".join(buffers[it] for it in kept), stdout=subprocess.PIPE,
                                    stderr=subprocess.DEVNULL, timeout=radio.SECONDS).stdout.decode().splitlines()
             groups = [(place, int(line[15:], 16)) for place, line in enumerate(lines) if line != radio.LOST]
@@ -205,7 +205,7 @@ class Live(Case):
         self.check("too few without the clock", any(counted < sent for counted, sent in steps[()]), True)
 
 
-@unittest.skipUnless(radio.is_there(), "no numpy here (apt-get install python3-numpy)")
+@needs("python3-numpy")
 class Pages(Case):
     """The lines of docs/AIR.md."""
 
@@ -214,7 +214,7 @@ class Pages(Case):
         call, shown = re.search(r"^    (\./rdsrt .*?)\n\nIt prints:\n\n```text\n(.*?)```", text, re.M | re.S).groups()
         self.check("the trial", ran(call), shown)
 
-    @needs("sox", package="sox")
+    @needs("sox")
     def test_the_lines_for_a_sound_card(self):
         """With a computed station in place of the card, whose samples come at once: without --live. sox makes them."""
         section = text_of("docs/AIR.md").split("## At the encoder's output\n")[1].split("\n## ")[0]

@@ -7,7 +7,8 @@ import random
 import re
 import subprocess
 
-from tests.support import PROGRAM, ROOT, SECONDS, Case, needs, temporary_folder, text_of
+from tests.needed import needs
+from tests.support import PROGRAM, ROOT, SECONDS, Case, temporary_folder, text_of
 from tests.test_audit import SLOT, listed, station
 
 LOST = "---- ---- ---- ----"
@@ -193,7 +194,7 @@ class Guide(Case):
                 file.write(log)
         return folder
 
-    @needs("parallel", package="parallel")
+    @needs("parallel")
     def test_the_lines_of_parallel(self):
         audit, decode = re.search(r"^ +(parallel .* audit .*)\n +(parallel .* decode .*)$", self.text, re.M).groups()
         folder = self.folder_of_logs()

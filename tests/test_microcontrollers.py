@@ -2,17 +2,16 @@
 import os
 import re
 import sys
-import unittest
 
 from tests import c_library
 from tests.c_library import WARNINGS
-from tests.support import INSTALL, Case, bytes_of, missing, output, path, temporary_folder, text_of
+from tests.needed import needs
+from tests.support import INSTALL, Case, bytes_of, output, path, temporary_folder, text_of
 
 FOLDER = path("experiments/microcontrollers")
 sys.path.insert(1, FOLDER)
 import narrow
 
-TOOLS = ("arm-none-eabi-gcc", "arm-linux-gnueabihf-gcc", "qemu-system-arm", "qemu-arm")
 # for each Cortex-M a board of the emulator, and the end of its RAM: 4 MB, and 16 KB
 BOARDS = {"cortex-m4": ("mps2-an386", 0x20400000), "cortex-m0plus": ("microbit", 0x20004000)}
 BARE = ["--specs=rdimon.specs", "-Wl,--section-start=.vectors=0", "-Wl,-Tdata=0x20000000", "-Wl,-z,noexecstack"]
@@ -51,15 +50,13 @@ def ran_on(board, program, argument="", given=b""):
                    "-semihosting-config", arguments, "-kernel", program], given)
 
 
-@unittest.skipIf(missing(*TOOLS), missing(*TOOLS))
+@needs("gcc-arm-none-eabi", "libnewlib-arm-none-eabi", "gcc-arm-linux-gnueabihf", "libc6-dev-armhf-cross", "qemu-system-arm",
+       "qemu-user")
 class Microcontrollers(Case):
     def built(self, target):
         """Builds the library for a target. Returns the words of its compiler, and the library."""
         tools, machine = narrow.TARGETS[target]
         compiler, library = f"{tools}-gcc", os.path.join(FOLDER, "out", target, "librdsrt.a")
-        libc = "librdimon.a" if target in BOARDS else "libc.a"
-        if not os.path.isabs(output([compiler, f"-print-file-name={libc}"])[1].decode()):
-            self.skipTest(f"no {libc} of {compiler} here")
         status, printed = output([os.path.join(FOLDER, "narrow.py"), target], seconds=3600)
         self.assertEqual((status, printed), (0, b""), f"{target}: the library is built")
         return [compiler, *machine, "-std=c11", "-I", path("include")], library

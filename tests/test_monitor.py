@@ -10,8 +10,9 @@ import sys
 import threading
 import time
 
+from tests.needed import needs
 from tests.package import PackageCase
-from tests.support import PROGRAM, needs, path, temporary_folder, text_of
+from tests.support import PROGRAM, path, temporary_folder, text_of
 
 MONITOR, JSON = path("examples/monitor"), path("examples/json")
 SECONDS = 120
@@ -318,7 +319,7 @@ class Monitor(PackageCase):
                 found = series(metrics)[0].get((name, station))
         return found
 
-    @needs("parallel", package="parallel")
+    @needs("parallel")
     def test_the_guides_lines_share_stations_among_machines(self):
         """This machine takes the place of two, and the feed prints a text of each station."""
         split, share = re.search(r"^ +(split .*)\n +(parallel .*)$", text_of("docs/RECEIVER.md"), re.M).groups()
@@ -340,7 +341,7 @@ class Monitor(PackageCase):
         parts = len([it for it in os.listdir(place) if it.startswith("part.")])
         self.check("two shares", parts, 2)
 
-    @needs("systemd-analyze")
+    @needs("systemd")
     def test_systemd_takes_the_unit(self):
         """Its commands are there."""
         place = os.path.join(self.folder, "rdsrt-monitor.service")

@@ -1,6 +1,6 @@
 """The page by key, to be heard and to be read: controls, contrast, colours, motion, and small windows."""
 from tests.page_support import (FOLDER, GROUPS, HI, SCHEMES, TABS, URL, ChromiumCase, FirefoxCase, call, click, example,
-                                first_examples, focus, hidden, of, open_script, settle, settled_verdict, text_of, to_tab,
+                                first_examples, hidden, of, open_script, settle, settled_verdict, text_of, to_tab,
                                 verdict_of, visit)
 from tests.test_page_links import served
 

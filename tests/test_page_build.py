@@ -4,15 +4,12 @@ import hashlib
 import os
 import re
 
-from tests import browser, firefox
-from tests.page_support import FOLDER, browsers
+from tests.page_support import FOLDER
 from tests.support import BUILD_PAGE, Case, output
 
 
 class PageBuild(Case):
     def test_the_page_is_built(self):
-        if not browsers():
-            self.skipTest(f"no browser here (apt-get install {browser.PACKAGES} {firefox.PACKAGES})")
         if "RDSRT_PAGE" in os.environ:
             self.skipTest("RDSRT_PAGE names a page that is built")
         status, printed = output([BUILD_PAGE, FOLDER], seconds=3600)

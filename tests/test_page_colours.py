@@ -6,7 +6,7 @@ import re
 
 from tests import plain_worlds, random_scripts
 from tests.page_support import (HI, NOTHING, SCHEMES, YO, ChromiumCase, FirefoxCase, call, click, example, move, of,
-                                open_script, program, settle, text_of, to_tab, verdict_of)
+                                open_script, program, settle, text_of, verdict_of)
 
 SEED, SCRIPTS, SLOTS = 20261127, 40, 90
 # arguments of a script with the form in which the program prints them: escapes of characters in the table, and pieces that

@@ -2,10 +2,10 @@
 import glob
 import os
 import re
-import shutil
 import subprocess
 import zlib
 
+from tests.needed import needs
 from tests.support import Case, path, text_of
 
 # each folder of the page imports only those before it
@@ -13,10 +13,9 @@ FOLDERS = ("program", "model", "display", "ui")
 
 
 class Scripts(Case):
+    @needs("node-typescript")
     def test_the_types_fit(self):
         """By the JSDoc of classes and functions."""
-        if not shutil.which("tsc"):
-            self.skipTest("no tsc here (apt-get install node-typescript)")
         done = subprocess.run(["tsc", "-p", path("page")], stdout=subprocess.PIPE, text=True, check=False)
         self.check("tsc", (done.returncode, done.stdout), (0, ""))
 

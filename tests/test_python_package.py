@@ -9,13 +9,12 @@ import tempfile
 import zipfile
 
 from tests import c_library
+from tests.needed import needs
 from tests.package import (SOURCES, PackageCase, checkout_without_library, examples, plain_environment,
                            run_example)
-from tests.support import ARCHIVE, ROOT, needs, path, ran, temporary_folder
+from tests.support import ARCHIVE, ROOT, path, ran, temporary_folder
 
 SECONDS = 300
-# the system's Python often has setuptools and wheel if the first does not
-PYTHONS = (sys.executable, "/usr/bin/python3")
 
 
 def output(words, given="", **more):
@@ -23,12 +22,6 @@ def output(words, given="", **more):
     done = subprocess.run(words, input=given, stdout=subprocess.PIPE, stderr=subprocess.STDOUT, timeout=SECONDS,
                           text=True, **more)
     return done.returncode, done.stdout
-
-
-def with_wheel():
-    """Returns the first Python that has what makes a wheel, or None."""
-    there = [it for it in PYTHONS if os.path.exists(it)]
-    return next((it for it in there if output([it, "-c", "import setuptools, wheel, pip"])[0] == 0), None)
 
 
 class PythonPackage(PackageCase):
@@ -42,7 +35,7 @@ class PythonPackage(PackageCase):
         self.check("each test has a result", re.findall(r"^Ran (\d+) tests", printed, re.M), [str(len(found))])
         self.check("its last line", printed[-2000:].endswith("OK\n") or printed[-2000:], True)
 
-    @needs("mypy", package="mypy")
+    @needs("mypy")
     def test_mypy_finds_no_fault(self):
         with tempfile.TemporaryDirectory() as cache:
             status, printed = output(["mypy", "--strict", "--cache-dir", cache, SOURCES])
@@ -87,10 +80,9 @@ class PythonPackage(PackageCase):
         self.check("seed 20261126", got, wanted, "".join(lines))
         self.check("lost slots were added", len(got) > 3000, True)
 
+    @needs("gcc", "python3-pip")
     def test_a_wheel_made_twice_has_the_same_bytes_and_works_alone(self):
         """Whatever the umask is. It is one of a platform, and works without RDSRT_LIBRARY."""
-        if not with_wheel() or not shutil.which("x86_64-linux-gnu-gcc"):
-            self.skipTest("no Python here has setuptools and wheel (apt-get install python3-pip)")
         with tempfile.TemporaryDirectory() as folder:
             made = []
             for place in ("one", "two"):

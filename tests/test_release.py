@@ -11,7 +11,8 @@ import time
 from unittest import mock
 
 from tests import c_library
-from tests.support import PROMPT, SECONDS, Case, commit, missing, needs, output, path, script, temporary_folder, text_of
+from tests.needed import needs
+from tests.support import PROMPT, SECONDS, Case, commit, output, path, script, temporary_folder, text_of
 
 import crates
 
@@ -21,12 +22,6 @@ RELEASE = script("tools/release")
 VERSION = c_library.header_version()
 # replaces the kit's `rt`, which takes long: it has a child
 RT = "#!/bin/sh\nsleep 600 &\necho $! > {}\nwait\n"
-
-
-def why_missing():
-    """Returns which tool of a release is not here, or None."""
-    has_wheels = output([path("python/wheel"), "--python"])[0] == 0
-    return missing(*RELEASE.NEEDED) or (None if has_wheels else "no Python that makes wheels here")
 
 
 class Repository(Case):
@@ -94,7 +89,7 @@ class Obstacles(Repository):
         self.change("README.md", "rdsrt", "RDSRT")
         self.check("a change", self.obstacles(True), ["commit your changes first: a release is made of a commit"])
 
-    @needs("git", "dpkg-deb")
+    @needs("dpkg")
     def test_all_that_is_missing_is_named_at_once(self):
         tools = temporary_folder(self)
         for name in ("bash", "dirname", "env", "git", "rt", "sed", "gzip"):
@@ -114,10 +109,9 @@ class Obstacles(Repository):
             self.check(f"tools/release {words}", (status, said.split(b"\n")[0]), (2, first))
 
 
+@needs("dpkg", "gcc", "binutils", "g++-aarch64-linux-gnu", "libc6-dev-arm64-cross", "python3-pip")
 class Stopped(Repository):
     def setUp(self):
-        if why_missing():
-            self.skipTest(why_missing())
         super().setUp()
         self.child, self.room, self.kit = (os.path.join(temporary_folder(self), it) for it in ("child", "room", "kit/bin"))
         for it in (self.room, self.kit, os.path.join(self.tree, "crates/rdsrt")):

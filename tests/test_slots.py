@@ -11,7 +11,7 @@ import subprocess
 
 from tests.calls import DECODE
 from tests.slot import NINETEEN_SLOTS, SLOT
-from tests.support import PROGRAM, SECONDS, ProgramCase, bytes_of, ran
+from tests.support import PROGRAM, SECONDS, ProgramCase, ran
 
 HI = "C201 2140 4849 0D20"
 LOST = "---- ---- ---- ----"

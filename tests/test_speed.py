@@ -1,10 +1,10 @@
 """The program takes no more instructions a slot than README states, by callgrind."""
 import re
-import shutil
 import sys
 import tempfile
 import unittest
 
+from tests.needed import needs
 from tests.support import PROGRAM, TARGET, ProgramCase, needs_proved, path, text_of
 
 sys.path.insert(1, path("bench"))
@@ -30,7 +30,8 @@ def stated():
 
 
 @needs_proved
-@unittest.skipIf(TARGET or not shutil.which("valgrind"), "needs valgrind (apt-get install valgrind)")
+@unittest.skipIf(TARGET, "valgrind runs no program of another processor")
+@needs("valgrind")
 class Speed(ProgramCase):
     def test_no_number_is_above_that_of_the_page(self):
         with tempfile.TemporaryDirectory() as folder:

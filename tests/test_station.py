@@ -14,8 +14,9 @@ import tempfile
 import time
 
 from tests import package
+from tests.needed import needs
 from tests.slot import SLOT
-from tests.support import PROGRAM, SECONDS, Case, bytes_of, needs, path
+from tests.support import PROGRAM, SECONDS, Case, bytes_of, path
 
 STATION = path("examples/station")
 SEED = 20261125
@@ -218,7 +219,7 @@ class Rows(Case):
                            rows)
 
 
-@needs("cc")
+@needs("gcc")
 class Live(Case):
     def test_no_text_of_a_live_station_is_refused_and_the_newest_counts(self):
         status, rows = fed(["--m", "4"], {2: "ONE", 14: "TWO", 16: "THREE"})
@@ -236,7 +237,7 @@ class Live(Case):
         self.check("12 rows take 11 slots at least", (done.stdout.count(b"\n"), took >= 11 * SLOT), (12, True))
 
 
-@needs("cc")
+@needs("gcc")
 class Restarts(Case):
     def test_a_radio_with_the_flag_bit_alone_shows_a_mix_only_without_the_empty_text(self):
         """A radio with the flag bit alone shows no mix of a station that is restarted, and some without the empty
