@@ -1,18 +1,21 @@
-"""Runs the tests side by side. The last line is `N passed, M failed, K skipped`: methods of tests, not their checks.
+"""Runs the tests side by side. The last line is `N passed, M failed, K skipped`: methods of tests, not their checks. The line
+before it says why K were skipped, and what to type.
 
 usage: python3 -m tests [--target aarch64 | --unproved] [NAME..]
 
 A NAME is a module, a class or a method: test_slots, test_slots.Live, test_slots.Live.test_full_output_is_noted. Each
-class runs in a process of its own. If that ends in the middle of a test, this test has failed, and the next process
+class runs in a process of its own, and a line says how many of them are done. If that ends in the middle of a test, this test has failed, and the next process
 runs the others.
 
 The tests stop if a source is newer than the program. With --unproved they take an unproved build of the sources then,
-which takes 1 to 2 minutes.
+which takes 40 seconds to 2 minutes.
 
 --target runs the tests of the program alone, with the program for 64-bit Arm under an emulator. All of them take about
 half an hour on 4 cores.
 """
 import argparse
+import collections
+import itertools
 import json
 import os
 import signal
@@ -23,6 +26,8 @@ import threading
 import unittest
 from concurrent.futures import ThreadPoolExecutor
 
+from tests import needed
+
 ROOT = os.path.dirname(os.path.dirname(os.path.abspath(__file__)))
 # seconds that one class may take
 LIMIT = 7200
@@ -30,6 +35,8 @@ LIMIT = 7200
 LONGEST = ("test_page_build", "test_arm", "test_microcontrollers", "test_witness", "test_c_library", "test_fm",
            "test_random_scripts", "test_radios", "test_failing_calls", "test_audit", "test_python_package", "test_json",
            "test_worlds", "test_clocks", "test_monitor", "test_station")
+# lines of a failed test that stand at the end again
+MOST_AGAIN = 3
 running, printing = set(), threading.Lock()
 
 
@@ -126,22 +133,23 @@ def reports(found):
         yield f"skipped: {name}: {text}"
 
 
-def run_class(tests, folder):
-    """Runs the tests of one class and prints their reports. Returns the outcomes."""
+def run_class(tests, folder, steps):
+    """Runs the tests of one class and prints their reports, below a line with its number. Returns what came of each."""
     found, printed = outcomes_of([it.id() for it in tests], folder)
     with printing:
+        print(f"== {tests[0].id().removeprefix('tests.').rpartition('.')[0]} ({next(steps)})")
         print(printed, end="")
         for line in reports(found):
             print(line)
         sys.stdout.flush()
-    return [outcome for outcome, _, _ in found]
+    return found
 
 
-def run_classes(classes, count, folder):
-    """Runs so many classes at a time. Returns the outcomes. An interrupt ends the processes of all."""
+def run_classes(classes, count, folder, steps):
+    """Runs so many classes at a time. Returns what came of their tests. An interrupt ends the processes of all."""
     pool = ThreadPoolExecutor(count)
     try:
-        return [it for found in pool.map(lambda its: run_class(its, folder), classes) for it in found]
+        return [it for found in pool.map(lambda its: run_class(its, folder, steps), classes) for it in found]
     finally:
         pool.shutdown(wait=False, cancel_futures=True)
         for process in list(running):
@@ -159,19 +167,43 @@ def turns(classes, cores):
     return sorted(found.items(), reverse=True, key=lambda it: it[0])
 
 
+def why_skipped(reasons):
+    """Returns why so many tests were skipped, and what to type for those that want packages. None if none was."""
+    packages = [found[1].split() for found in map(needed.WANTS.search, reasons) if found]
+    words = []
+    if packages:
+        names = sorted({it for its in packages for it in its})
+        words.append(f"{len(packages)} want packages (type: {needed.INSTALL} {' '.join(names)})")
+    others = collections.Counter(it for it in reasons if not needed.WANTS.search(it))
+    words += [f"{count} for this: {reason}" for reason, count in others.items()]
+    return f"skipped: {'; '.join(words)}" if words else None
+
+
+def last_lines(found):
+    """Gives the last lines: the first lines of each failed test again, why tests were skipped, and the counts."""
+    for outcome, name, text in found:
+        if outcome == "failed":
+            yield "\n".join(f"FAILED: {name.removeprefix('tests.')}: {text}".split("\n")[:MOST_AGAIN])
+    why = why_skipped([text for outcome, _, text in found if outcome == "skipped"])
+    if why:
+        yield why
+    yield ", ".join(f"{sum(it[0] == outcome for it in found)} {outcome}" for outcome in ("passed", "failed", "skipped"))
+
+
 def run_all(tests):
-    """Runs the tests, and prints the last line. Returns whether none failed."""
+    """Runs the tests, and prints the last lines. Returns whether none failed."""
     broken = [it for it in tests if isinstance(it, unittest.loader._FailedTest)]
-    for it in broken:
-        print(f"FAILED: {it._exception}")
     classes = classes_of(it for it in tests if it not in broken)
-    outcomes = ["failed"] * len(broken)
+    steps = (f"{number} of {len(classes)}" for number in itertools.count(1))
+    found = [("failed", it.id(), str(it._exception)) for it in broken]
+    for _, _, text in found:
+        print(f"FAILED: {text}")
     with tempfile.TemporaryDirectory() as folder:
         for count, its in turns(classes, os.cpu_count()):
-            outcomes += run_classes(its, count, folder)
-    passed, failed, skipped = (outcomes.count(it) for it in ("passed", "failed", "skipped"))
-    print(f"{passed} passed, {failed} failed, {skipped} skipped")
-    return failed == 0
+            found += run_classes(its, count, folder, steps)
+    for line in last_lines(found):
+        print(line)
+    return all(outcome != "failed" for outcome, _, _ in found)
 
 
 def no_tests(why):

@@ -5,10 +5,10 @@ import glob
 import importlib
 import os
 import re
-import shutil
 import stat
 import subprocess
 
+from tests.needed import needs
 from tests.support import ROOT, SECONDS, Case, found_program, temporary_folder, text_of
 
 MANUAL = "docs/man/rdsrt.1"
@@ -69,6 +69,7 @@ RUN_BY = [
     (r"awk ", "test_guide.Guide.test_each_fault_has_the_time_of_its_line"),
     (r"split -n l/2 stations|feed \| monitor ", "test_monitor"),
     (r"tools/held$", "test_held"),
+    (r"tools/progress$", "test_gate.Progress"),
     (r"rdsrt encode --pi C201 script \| transmit ", "test_fm"),
     (r"\./rdsrt encode --pi C201 --pty 10 --m 8 examples/chanson.csv \| examples/fm/transmit ",
      "test_fm.Pages.test_the_trial_without_hardware"),
@@ -96,7 +97,7 @@ RUN_BY = [
 ]
 # a command that nothing runs here, and the reason
 NOT_HERE = [
-    (r"\./test$|python3 -m tests|python3 -m unittest ", "the tests themselves"),
+    (r"\./test(?: --as-it-is)?$|python3 -m tests|python3 -m unittest ", "the tests themselves"),
     (r"\(cd crates/rdsrt && rt try |\$\(tools/unproved\) ", "it compiles the program anew, for minutes on a busy machine"),
     (r"\(cd crates/rds_encoder && rt check\)", "it proves a crate with a wrong line; test_trust has the line"),
     (r"rt ", "a command of the kit: the gate runs `rt ci`, and that takes minutes"),
@@ -199,14 +200,12 @@ class Commands(Case):
                      "docs/proof/ARCHITECTURE.md", MANUAL, *HELP]:
             self.check(f"{path} has commands", [*commands_in(path)] != [], True)
 
+    @needs("jq")
     def test_each_other_command_does_what_the_table_says(self):
         texts = {it for path in [*PAGES, *EXAMPLES] for it in typed_in(path)}
         for begin, files, programs, output, written in RUN:
             call = [it for it in texts if it.startswith(begin)]
             self.check(f"'{begin}' is in one page", len(call), 1)
-            missing = [it for it in re.findall(r"\bjq\b", call[0]) if not shutil.which(it)]
-            if missing:
-                self.skipTest(f"no {missing[0]} here (apt-get install {missing[0]})")
             self.check(call[0], *self.played(call[0], files, programs, written, output))
 
     def played(self, call, files, programs, written, output):

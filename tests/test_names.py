@@ -25,7 +25,7 @@ OTHERS = {"Stdin", "Stdout", "Exitval"}
 # one name, or several in a row
 NAMES = r"((?:`?\w+`?(?:, and |, | and )?)+)"
 # files that a command or a user makes
-MADE = {"hi.c", "tests/out", "page/out", "page/out/index.html", "crates/rds_ffi/out/librds_ffi.a",
+MADE = {"hi.c", "tests/out", "tests/out/gate.log", "page/out", "page/out/index.html", "crates/rds_ffi/out/librds_ffi.a",
         "crates/NAME/edits/what_is_wrong.edit"}
 # paragraphs that each cite one name that does not exist
 STALE = ["The crate rds_nowhere.", "`DecodesNowhere` says so.", "See `specs/Nowhere`.", "See tests/nowhere.py.",
@@ -68,7 +68,7 @@ def stale(sources, page):
     for kind, names in re.findall(rf"\b(edit|test)s? {NAMES}", text):
         known = sources.edits if kind == "edit" else sources.tests | {*crates.listed()}
         yield from (f"{kind} {it}" for it in re.findall(r"\w+_\w+", names) if it not in known)
-    for names in re.findall(rf"\brds_\w+_tests ((?:`\w+`(?:, and |, | and )?)+)", text):
+    for names in re.findall(r"\brds_\w+_tests ((?:`\w+`(?:, and |, | and )?)+)", text):
         yield from (f"test {it}" for it in re.findall(r"`(\w+)`", names) if it not in sources.tests)
 
 
