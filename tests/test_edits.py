@@ -1,8 +1,11 @@
 """tools/edits without the prover: how it reads edits, which it tries together, and what it takes for a refusal."""
+import contextlib
 import glob
+import io
 import os
+from unittest import mock
 
-from tests.support import Case, path, script, temporary_folder
+from tests.support import Case, path, script, temporary_folder, text_of
 
 import crates
 
@@ -138,6 +141,33 @@ class Edits(Case):
                                (1, f"src/dwell.rt:5:1: error: no\n{name}: not proved\n{END}"),
                                (2, "error: --only fits no function\n"), (0, "only=1 proved=1\n"), (-9, "")):
             self.check(f"status {status}: {output}", self.judged(output, status=status)[0], False)
+
+    def test_each_check_has_its_own_copy_of_the_proofs(self):
+        """What one edit leaves there is no start for another one."""
+        seen, kept = [], self.write("kept/proof", "as it is")
+
+        def checked(name, uses, edits, at, is_alone):
+            proof = os.path.join(at, "out/incremental/proof")
+            seen.append((text_of(proof), text_of(os.path.join(at, "src/dwell.rt")) == SOURCE))
+            with open(proof, "w", encoding="utf-8") as file:
+                file.write("of an edit")
+            return 1, f"fn low::dwell::rdsrt_dwell: not proved\n{END}"
+        edit = self.edit(DWELL)
+        with mock.patch.multiple(self.edits, checked=checked, folder=lambda name: self.crate):
+            for _ in range(2):
+                found, count = self.edits.tried("low", {}, [edit], os.path.dirname(kept))
+                self.check("refused", (found[edit][0], count), (True, 1))
+        self.check("proofs, and whether the source has no edit", seen, [("as it is", False)] * 2)
+        self.check("the proofs of the crate", text_of(kept), "as it is")
+
+    def test_nothing_is_refused_in_a_crate_that_is_not_proved(self):
+        with mock.patch.object(self.edits, "folder", lambda name: self.crate):
+            self.write("edits/wrong.edit", DWELL)
+            crate = self.edits.Crate("low", ["edits"])
+            with contextlib.redirect_stdout(io.StringIO()):
+                self.check("batches", crate.begin("kept", "fn low::dwell::rdsrt_dwell: not proved\n"), [])
+            self.check("the edit", [*crate.found.values()], [(False, "what it changes is not proved as it is")])
+            self.check("a batch of a proved crate", [len(it) for it in self.edits.Crate("low", ["edits"]).begin("kept", None)], [1])
 
     def test_each_kept_edit_fits(self):
         for name in crates.listed():
