@@ -95,11 +95,11 @@ def settle(b):
 
 
 def visit(b, url):
-    """Opens the page. Returns whether it is ready in time."""
+    """Opens the page, and waits until it is ready."""
     b.go(url)
     with open(PROBE, encoding="utf-8") as probe:
         b.run(probe.read() + ";window.probe = probe; undefined")
-    return b.until(READY)
+    b.until(READY)
 
 
 def reload(b):

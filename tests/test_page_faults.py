@@ -5,7 +5,7 @@ import re
 import subprocess
 
 from tests.page_support import (EVERY_100, HI, NOTHING, SEED, YO, ChromiumCase, FirefoxCase, call, click, example,
-                                first_examples, move, of, open_script, run_program, settle, settled_verdict, shown,
+                                first_examples, idle, move, of, open_script, run_program, settle, settled_verdict, shown,
                                 text_of, to_tab, verdict_of)
 from tests.slot import SLOT
 from tests.support import PROGRAM
@@ -231,18 +231,24 @@ class Faults:
         b = self.b
         verdict_of(b, f"{HI}\n", 8)
         b.run("""{ const it = $log.logTab.judge; const ask = it.ask.bind(it);
-            const late = (call, given, more) => new Promise((done, fail) => {
-              more.signal.addEventListener("abort", () => setTimeout(() => fail(new Error("left")), 20));
-              setTimeout(() => ask(call, given, more).then(done, fail), 400);
+            const late = ({ signal }) => new Promise((done, fail) => {
+              signal.addEventListener("abort", () => { window.leave = () => fail(new Error("left")); });
             });
-            it.ask = (call, ...more) => call === "witness" ? late(call, ...more) : ask(call, ...more); }""")
+            it.ask = (call, given, how) => {
+              if (call !== "witness") return ask(call, given, how);
+              it.ask = ask;
+              return late(how);
+            }; }""")
         to_tab(b, "log")
-        call(b, "probe.open", "log", example("flags.log").decode(), {"pi": "C201", "m": 9, "k": 0})
+        # the page is not idle before that search ends
+        b.run(f"probe.open('log', {json.dumps(example('flags.log').decode())}, {{ pi: 'C201', m: 9, k: 0 }}); undefined")
         b.until("document.querySelector('#verdict').textContent.includes('Looking for')")
-        call(b, "probe.choose", "log-m", "8")
-        settle(b)
-        said = settled_verdict(b)
-        self.check("the search for M = 8", "a receiver that loses slots 2 to 3" in said, True, said)
+        b.run("probe.choose('log-m', '8')")
+        b.until("document.querySelector('#verdict').textContent.includes('a receiver that loses slots 2 to 3')")
+        said = text_of(b, "#verdict")
+        b.run("leave()")
+        idle(b)
+        self.check("after the end of the search for M = 9", text_of(b, "#verdict"), said)
 
     def test_a_worker_that_ends_is_said(self):
         """The page does not wait for ever."""

@@ -125,7 +125,8 @@ class Road:
     def test_the_first_road_shows_the_mix(self):
         """First both displays have the right text. The car drives up to the mix. Who asks for reduced motion sees it at once."""
         b = self.b
-        self.check("it stops at the mix", b.until(f"{CAR} === 54 && !probe.plays('road')"), True)
+        # it stops at the mix
+        b.until(f"{CAR} === 54 && !probe.plays('road')")
         texts = lambda: [text_of(b, f"#road-{it} .text") for it in ("air", "dwell", "alone")]
         self.check("displays", texts(), ["B7: closed today", "— waits to be sure —", "B7: opened today"])
         self.check("words", text_of(b, "#road-says"), "“B7: opened today” was never on air. The receiver with rdsrt "
@@ -135,7 +136,8 @@ class Road:
         names = [of(b, f"#road-{it}", "ariaLabel") for it in ("air", "dwell", "alone")]
         self.check("names without a word of RDS", names, ["On air", "A receiver with rdsrt", "An ordinary radio"])
         click(b, "#road-script")
-        self.check("as a script", (b.until("document.querySelector('#script-text').value !== ''"), hidden(b)), (True, ["log"]))
+        b.until("document.querySelector('#script-text').value !== ''")
+        self.check("as a script", hidden(b), ["log"])
         self.check("its rows", of(b, "#script-text", "value"), call(b, "probe.roadAsScript"))
 
     def test_each_four_letters_of_a_mix_have_the_hue_of_their_text(self):
@@ -194,7 +196,7 @@ class Road:
         settle(b)
         click(b, "#road-share")
         tunnels, script = call(b, "probe.tunnels"), call(b, "probe.roadAsScript")
-        self.check("the address", b.until("location.hash.startsWith('#road=')"), True)
+        b.until("location.hash.startsWith('#road=')")
         visit(b, b.run("location.href"))
         self.check("the road again", (call(b, "probe.tunnels"), call(b, "probe.roadAsScript")), (tunnels, script))
         b.run("document.querySelector('#road-band .tunnel').focus()")
