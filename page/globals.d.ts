@@ -6,7 +6,7 @@ interface Example {
 declare const RDSRT_ENGINE: string;
 declare const RDSRT_WORKER: string;
 declare const RDSRT_EXAMPLES: Record<string, Example[]>;
-/** What examples/station sends for letters that rdsrt's character table lacks. */
+/** What programs/station sends for letters that rdsrt's character table lacks. */
 declare const RDSRT_CLOSEST: Record<string, string>;
 interface FocusOptions { focusVisible?: boolean; }
 interface ARIAMixin { ariaInvalid: string | null; }

@@ -2,6 +2,7 @@
 
 test_c_library has the tests for this machine, test_arm and test_microcontrollers those for other processors.
 """
+import glob
 import itertools
 import os
 import random
@@ -18,14 +19,20 @@ ABI = int(re.search(r"#define RDSRT_ABI (\d+)", text_of(HEADER)).group(1))
 PROGRAMS = ["examples/c/decode.c", "examples/c/encode.c", "examples/c/audit.c", "examples/c/receive.c",
             "examples/c/tuner.c", "tests/c/calls.c", "tests/c/any_bytes.c", "tests/c/threads.c"]
 LIBC = {"memcpy", "memset", "memmove", "memcmp"}
-# the files that tools/stage lays out, also in a release, and those of ./install
+# the files that tools/stage lays out, for ./install and for a release: programs, the Python package, examples, and all
+PROGRAMS_IN_BIN = {f"bin/rdsrt-{it}" for it in os.listdir(path("programs")) if "." not in it and it != "__pycache__"}
+PACKAGE = {f"share/rdsrt/python/src/rdsrt/{it}" for it in (f"librdsrt.so.{ABI}", *os.listdir(path("python/src/rdsrt")))
+           if it != "__pycache__"}
+EXAMPLES = {"examples/README.md", *(os.path.relpath(it, path("")) for kind in ("*.log", "*.csv", "c/*")
+                                    for it in glob.glob(path(f"examples/{kind}"))),
+            *(f"examples/rdsrt-{os.path.basename(it)}" for it in glob.glob(path("programs/*.service")))}
 STAGED = {"bin/rdsrt", "include/rdsrt.h", "lib/librdsrt.a", "lib/librdsrt.so", f"lib/librdsrt.so.{ABI}",
           "lib/pkgconfig/rdsrt.pc", "lib/cmake/rdsrt/rdsrt-config.cmake", "lib/cmake/rdsrt/rdsrt-config-version.cmake",
           "share/man/man1/rdsrt.1",
-          *(f"share/doc/rdsrt/{it}.md" for it in ("DEFINITIONS", "FORMATS", "TEST", "STATION", "RECEIVER")),
+          *PROGRAMS_IN_BIN, *PACKAGE, *(f"share/doc/rdsrt/{it}" for it in (
+              "AIR.md", "DEFINITIONS.md", "FORMATS.md", "TEST.md", "STATION.md", "RECEIVER.md", *EXAMPLES)),
           "share/bash-completion/completions/rdsrt", "share/zsh/site-functions/_rdsrt",
           "share/fish/vendor_completions.d/rdsrt.fish"}
-INSTALLED = STAGED | {f"share/doc/rdsrt/examples/c/{it}" for it in os.listdir(path("examples/c"))}
 # a project that finds the library by CMake
 PROJECT = """cmake_minimum_required(VERSION 3.13)
 project(trial C)

@@ -1,4 +1,4 @@
-"""The signal chain of examples/fm, for test_fm and bench/radio: encode, transmit, noise and fades, receive.
+"""The signal chain of programs/transmit and programs/receive, for test_fm and bench/radio: encode, transmit, noise and fades, receive.
 
 Noise and fades come from fixed seeds: tests/air adds them to the multiplex, and tests/dongle at radio frequency.
 """
@@ -11,7 +11,7 @@ import subprocess
 
 from tests.support import PROGRAM, path
 
-TRANSMIT, RECEIVE = path("examples/fm/transmit"), path("examples/fm/receive")
+TRANSMIT, RECEIVE = path("programs/transmit"), path("programs/receive")
 AIR, DONGLE = path("tests/air"), path("tests/dongle")
 LOST = "---- ---- ---- ----"
 SECONDS = 600

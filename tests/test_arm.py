@@ -64,7 +64,7 @@ class Install(Case):
 
     def test_it_has_the_same_files(self):
         self.check("./install", (self.status, self.status and self.printed), (0, 0))
-        self.check("what is installed", c_library.installed_in(self.prefix), c_library.INSTALLED)
+        self.check("what is installed", c_library.installed_in(self.prefix), c_library.STAGED)
 
     def test_the_program_decodes(self):
         words = [*emulated.runner(), os.path.join(self.prefix, "bin/rdsrt"), "decode", "--pi", "C201"]

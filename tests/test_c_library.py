@@ -93,7 +93,7 @@ class Install(Case):
 
     def test_it_has_all_files_and_writes_none_beside_the_prefix(self):
         self.check("./install", (self.status, self.status and self.printed), (0, 0))
-        self.check("what is installed", self.files, c_library.INSTALLED)
+        self.check("what is installed", self.files, c_library.STAGED)
         self.check("what lies beside the prefix", self.beside, ["prefix"])
 
     @needs("binutils")
@@ -121,8 +121,10 @@ class Install(Case):
         self.check("what the header names", named, {"DEFINITIONS.md", "FORMATS.md", "examples/c/tuner.c"})
         self.check("what lacks", [it for it in named if not os.path.exists(os.path.join(folder, it))], [])
 
-    def test_the_examples_of_the_checkout_find_the_library(self):
+    def test_the_programs_find_the_library(self):
         package.examples(self.check, "after ./install", temporary_folder(self), package.plain_environment())
+        package.examples(self.check, "installed", temporary_folder(self), package.plain_environment(),
+                         os.path.join(self.prefix, "bin/rdsrt-"))
 
     @needs("cmake")
     def test_cmake_finds_the_library_for_the_versions_that_fit(self):

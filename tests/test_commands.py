@@ -8,17 +8,18 @@ import re
 import stat
 import subprocess
 
+from tests import package
 from tests.needed import needs
 from tests.support import ROOT, SECONDS, Case, found_program, temporary_folder, text_of
 
 MANUAL = "docs/man/rdsrt.1"
 HELP = ["tests/shown/help.txt",
         *(f"tests/shown/help_of_{it}.txt" for it in ("decode", "audit", "witness", "slots", "encode", "sim"))]
-PAGES = sorted(os.path.relpath(it, ROOT) for at in ("", "docs", "docs/proof", "examples", "python", "experiments/*")
+PAGES = sorted(os.path.relpath(it, ROOT) for at in ("", "docs", "docs/proof", "examples", "examples/*", "python")
                for it in glob.glob(os.path.join(ROOT, at, "*.md")))
-# programs of examples/ that say at their start how they are called
-EXAMPLES = sorted(os.path.relpath(it, ROOT) for at in ("station", "send", "json", "monitor", "v4l2", "fm/*", "c/*.c")
-                  for it in glob.glob(os.path.join(ROOT, "examples", at)))
+# programs that say at their start how they are called
+EXAMPLES = sorted([*(f"programs/{it}" for it in package.NAMES),
+                   *(os.path.relpath(it, ROOT) for it in glob.glob(os.path.join(ROOT, "examples/c/*.c")))])
 # programs that a command in a sentence begins with, beside the scripts of the repository
 PROGRAMS = ("rt", "rdsrt", "pip", "cc", "man", "parallel", "python3", "apt-get")
 HI, YO, HA = "C201 2140 4849 0D20", "C201 2150 594F 0D20", "C201 2140 4841 0D20"
@@ -54,27 +55,27 @@ RUN = [
      "receiver shows a mix: the texts with this flag agree, or differ in one segment\n"
      "rdsrt: judged in 409 slots, 400 without a group: 9 texts, 0 names, 0 pairs of tags\n",
      ("faults.txt", "no 2 EarlyFlag\nno 3 EarlyFlag\nno 205 Changed\nno 408 EarlyFlag\n")),
-    ("./rdsrt decode --pi C201 station.log | examples/json", {"station.log": f"{HI}\n" + f"{LOST}\n" * 128}, {},
+    ("./rdsrt decode --pi C201 station.log | programs/json", {"station.log": f"{HI}\n" + f"{LOST}\n" * 128}, {},
      "HI\n", None),
-    ("rdsrt decode --pi C201 received.log | json --pi C201", {"received.log": f"{HI}\n" + f"{LOST}\n" * 128}, {},
+    ("rdsrt decode --pi C201 received.log | rdsrt-json --pi C201", {"received.log": f"{HI}\n" + f"{LOST}\n" * 128}, {},
      "HI\n", None),
 ]
 # a command, and the test or the script that runs it
 RUN_BY = [
     (r"parallel -k --tag ", "test_guide.Guide.test_the_lines_of_parallel"),
-    (r"(?:examples/)?station --m 128 now.txt .*send HOST:PORT$", "test_send.Send.test_the_line_of_the_page"),
-    (r"(?:examples/)?station --m 128 ", "test_guide.Guide.test_the_pipe_of_a_station"),
+    (r"(?:programs/|rdsrt-)station --m 128 now.txt .*send HOST:PORT$", "test_send.Send.test_the_line_of_the_page"),
+    (r"(?:programs/|rdsrt-)station --m 128 ", "test_guide.Guide.test_the_pipe_of_a_station"),
     (r"\./rdsrt audit --all --running --pi C201 station.log$|rdsrt: 447 of 449 texts: ",
      "test_guide.Guide.test_the_counts_of_a_station_with_short_texts"),
     (r"awk ", "test_guide.Guide.test_each_fault_has_the_time_of_its_line"),
-    (r"split -n l/2 stations|feed \| monitor ", "test_monitor"),
+    (r"split -n l/2 stations|feed \| rdsrt-monitor ", "test_monitor"),
     (r"tools/held$", "test_held"),
     (r"tools/progress$", "test_gate.Progress"),
-    (r"rdsrt encode --pi C201 script \| transmit ", "test_fm"),
-    (r"\./rdsrt encode --pi C201 --pty 10 --m 8 examples/chanson.csv \| examples/fm/transmit ",
+    (r"rdsrt encode --pi C201 script \| rdsrt-transmit ", "test_fm"),
+    (r"\./rdsrt encode --pi C201 --pty 10 --m 8 examples/chanson.csv \| programs/transmit ",
      "test_fm.Pages.test_the_trial_without_hardware"),
-    (r"rtl_fm .* examples/fm/receive --live \|\n", "test_fm.Pages.test_the_pi_that_is_heard_is_passed_on"),
-    (r"arecord .* \| sox .*\n.*examples/fm/receive |sox .* mpx.wav ",
+    (r"rtl_fm .* programs/receive --live \|\n", "test_fm.Pages.test_the_pi_that_is_heard_is_passed_on"),
+    (r"arecord .* \| sox .*\n.*programs/receive |sox .* mpx.wav ",
      "test_fm.Pages.test_the_lines_for_a_sound_card"),
     (r"\./rdsrt witness --pi C201 station.log$", "test_guide.Guide.test_the_letter_has_the_counts_and_the_text_of_a_station"),
     (r"\./rdsrt decode --pi C201 station.log$", "test_fm.EndToEnd"),
@@ -83,7 +84,7 @@ RUN_BY = [
      "test_c_library.Install.test_the_lines_of_each_example_build_and_run_it"),
     (r"\./install(?: PREFIX| ~/rdsrt|)$", "test_c_library.Install"),
     (r"python/wheel ", "test_python_package.PythonPackage.test_a_wheel_made_twice_has_the_same_bytes_and_works_alone"),
-    (r"experiments/microcontrollers/narrow.py", "test_microcontrollers.Microcontrollers.test_cortex_m4"),
+    (r"examples/microcontrollers/narrow.py", "test_microcontrollers.Microcontrollers.test_cortex_m4"),
     (r"arm-none-eabi-gcc ", "test_microcontrollers.Microcontrollers.test_the_line_that_compiles_a_program"),
     (r"bench/(?:guide|corrected)$", "test_guide.Guide.test_its_tables_are_those_that_the_scripts_print"),
     (r"bench/fades$", "test_fades"),
@@ -108,7 +109,7 @@ NOT_HERE = [
     (r"tools/edits(?: NAME)?$", "it proves for minutes; test_edits tests all that needs no prover"),
     (r"bin/rdsrt decode |pip install ", "tests/release runs it in a fresh system"),
     (r"bench/", "measures for minutes, by hand when the code has changed"),
-    (r"rtl_fm |(?:examples/)?v4l2 --frequency ", "it needs a tuner"),
+    (r"rtl_fm |(?:programs/|rdsrt-)v4l2 --frequency ", "it needs a tuner"),
     (r"apt-get (?:install |update$)", "installs packages"),
     (r"\./rdsrt$", "the program without arguments, named in a sentence"),
 ]
@@ -148,12 +149,12 @@ def commands_in(path):
 
 
 def is_command(text):
-    """Returns whether words in a sentence are a command: a program with arguments, or a script. A program of examples/
+    """Returns whether words in a sentence are a command: a program with arguments, or a script. A program of programs/
     without arguments is only named."""
     first, _, more = text.partition(" ")
     at = os.path.join(ROOT, first)
     is_script = "/" in first and os.path.isfile(at) and os.access(at, os.X_OK)
-    return bool(more) and first in PROGRAMS or is_script and (bool(more) or not first.startswith("examples/"))
+    return bool(more) and first in PROGRAMS or is_script and (bool(more) or not first.startswith("programs/"))
 
 
 def typed_in(path):
@@ -180,7 +181,7 @@ def is_there(name):
 def ran(call, folder=ROOT, errors=subprocess.STDOUT):
     """Returns the output of lines of a page, with the built program as ./rdsrt and as rdsrt."""
     # the proved program comes before the script of the same name, which may run one that is not proved
-    paths = [os.path.dirname(found_program()), folder, os.path.join(ROOT, "examples"), os.environ["PATH"]]
+    paths = [os.path.dirname(found_program()), folder, package.installed_programs(), os.environ["PATH"]]
     environment = {**os.environ, "LC_ALL": "C.UTF-8", "PATH": os.pathsep.join(paths)}
     done = subprocess.run(["bash", "-c", call.replace("./rdsrt", "rdsrt")], cwd=folder, stdin=subprocess.DEVNULL,
                           stdout=subprocess.PIPE, stderr=errors, timeout=SECONDS, env=environment)
@@ -212,7 +213,8 @@ class Commands(Case):
         """Runs the lines in a folder with these files and programs. Returns what they print and write, and what they
         should."""
         folder = temporary_folder(self)
-        os.symlink(os.path.join(ROOT, "examples"), os.path.join(folder, "examples"))
+        for name in ("examples", "programs"):
+            os.symlink(os.path.join(ROOT, name), os.path.join(folder, name))
         for name, text in {**files, **{it: f"#!/bin/sh\n{does}\n" for it, does in programs.items()}}.items():
             with open(os.path.join(folder, name), "w", encoding="utf-8") as file:
                 file.write(text)

@@ -19,7 +19,7 @@ from tests.support import ARCHIVE, output, path, ran, text_of
 SEED, SECONDS = 20261129, 120
 ROWS, DWELLS = 3000, (8, 16, 64)
 LOST, FIRST = b"---- ---- ---- ----", b"C201 0408 1234 4142"
-MONITOR, JSON = path("examples/monitor"), path("examples/json")
+MONITOR, JSON = path("programs/monitor"), path("programs/json")
 # two segments of a text, cut lines of another one with the other flag, and the other segments of a third one
 CUT = [b"C201 2140 4131 3A20", b"C201 2141 6F70 656E", *[b"C201 2150 4242"] * 40, b"C201 2142 6564 2074", b"C201 2143 6F64 6179",
        b"C201 2144 2121 2121", b"C201 2145 0D20 2020"]
@@ -63,7 +63,7 @@ def timed(lines):
 
 
 def objects_of(printed, *words):
-    """Returns the objects that examples/json makes of what decode printed."""
+    """Returns the objects that programs/json makes of what decode printed."""
     done = subprocess.run([JSON, *words], input=printed, stdout=subprocess.PIPE, timeout=SECONDS)
     return list(map(json.loads, done.stdout.splitlines()))
 

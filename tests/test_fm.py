@@ -1,4 +1,4 @@
-"""The programs of examples/fm: what `rdsrt encode` sends is received over noise and fades, and decoded again.
+"""programs/transmit and programs/receive: what `rdsrt encode` sends is received over noise and fades, and decoded again.
 
 The log that is received has the line of each slot from the first group on, which is that slot's group or a lost one,
 and no text is shown that was never set. The same log without the lines of the lost slots shows such texts: so these
@@ -222,7 +222,7 @@ class Pages(Case):
         case = radio.Case("a sound card", 300, 32, 0, 4, [], False)
         log, texts = radio.encoded("C201", case.seed, case.slots, case.dwell)
         folder, raw = temporary_folder(self), "-t raw -e signed -b 16 -c 1"
-        os.symlink(path("examples"), os.path.join(folder, "examples"))
+        os.symlink(path("programs"), os.path.join(folder, "programs"))
         with open(os.path.join(folder, "samples"), "wb") as samples:
             samples.write(transmitted(log))
         ran(f"sox -q {raw} -r 171k samples mpx.wav rate 192k", folder)

@@ -7,6 +7,7 @@ import random
 import re
 import subprocess
 
+from tests import package
 from tests.needed import needs
 from tests.support import PROGRAM, ROOT, SECONDS, Case, temporary_folder, text_of
 from tests.test_audit import SLOT, listed, station
@@ -170,7 +171,7 @@ class Guide(Case):
 
     def test_the_pipe_of_a_station(self):
         """The log of the guide's pipe, for some slots, without the modulator behind it."""
-        call = re.search(r"^    (examples/station .*) \| modulator$", self.text, re.M)[1]
+        call = re.search(r"^    (programs/station .*) \| modulator$", self.text, re.M)[1]
         log = ran(call.replace("now.txt", "--at-once --slots 400 <(echo HI)")).splitlines()
         slots = [line for line in log if line[0] != "#"]
         replies = [line for line in log if line[0] == "#"]
@@ -179,7 +180,7 @@ class Guide(Case):
 
     def test_the_pipe_to_another_encoder(self):
         """The texts that the pipe of docs/AIR.md lets through, without the sender behind it, are far enough apart."""
-        call = re.search(r"^    (examples/station .*decode --pi C201) \| examples/send HOST:PORT$", text_of("docs/AIR.md"),
+        call = re.search(r"^    (programs/station .*decode --pi C201) \| programs/send HOST:PORT$", text_of("docs/AIR.md"),
                          re.M)[1]
         lines = ran(call.replace("now.txt", "--at-once --slots 1300 <(yes HI | head -1)")).splitlines()
         self.check("texts", [it.split(" ", 1)[1] for it in lines[:2]], ['text ""', 'text "HI"'])
@@ -213,9 +214,7 @@ class Guide(Case):
             os.remove(os.path.join(folder, f"logs/{name}.log"))
         self.check("the others pass", done(audit, at=folder).returncode, 0)
 
-    def test_each_example_program_has_help(self):
-        """test_fm asks the programs of examples/fm."""
-        for name in ("json", "monitor", "send", "station", "v4l2"):
-            done = subprocess.run([os.path.join(ROOT, "examples", name), "--help"], capture_output=True,
-                                  timeout=SECONDS)
+    def test_each_program_has_help(self):
+        for name in package.NAMES:
+            done = subprocess.run([os.path.join(ROOT, "programs", name), "--help"], capture_output=True, timeout=SECONDS)
             self.check(f"{name} --help", (done.returncode, name.encode() in done.stdout, done.stderr), (0, True, b""))

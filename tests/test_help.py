@@ -157,7 +157,7 @@ class Scripts(Case):
         line, out = 'the command rt (the kit of Rattle) is not in PATH: see README, "Get it"\n', os.path.join(self.programs, "out")
         scripts = ["rdsrt decode --pi C201", "test", f"install {out}", f"install {out} --target armv7", "tools/build",
                    "tools/build rds_ffi", "tools/edits", "tools/proof verdicts", f"page/build {out}", "bench/all",
-                   "bench/profile decode", "experiments/microcontrollers/narrow.py armv7"]
+                   "bench/profile decode", "examples/microcontrollers/narrow.py armv7"]
         for call in scripts:
             self.check(call, self.asked(*call.split()), (1, "", line))
         status, _, errors = self.asked("tools/release", "--snapshot", out)

@@ -1,4 +1,4 @@
-"""examples/json: worked lines, live pipes, and the filter over the program beside the Python package."""
+"""programs/json: worked lines, live pipes, and the filter over the program beside the Python package."""
 import json
 import os
 import select
@@ -9,7 +9,7 @@ import time
 from tests.package import PackageCase
 from tests.support import PROGRAM, Case, path
 
-JSON = path("examples/json")
+JSON = path("programs/json")
 SECONDS = 120
 # in which an object is there: far more than the filter waits, for a busy machine
 PROMPT = 20

@@ -1,4 +1,4 @@
-"""The C library on 32-bit processors, as experiments/microcontrollers compiles it, under emulators."""
+"""The C library on 32-bit processors, as examples/microcontrollers compiles it, under emulators."""
 import os
 import re
 import sys
@@ -8,7 +8,7 @@ from tests.c_library import WARNINGS
 from tests.needed import needs
 from tests.support import INSTALL, Case, bytes_of, output, path, temporary_folder, text_of
 
-FOLDER = path("experiments/microcontrollers")
+FOLDER = path("examples/microcontrollers")
 sys.path.insert(1, FOLDER)
 import narrow
 
@@ -102,9 +102,9 @@ class Microcontrollers(Case):
     def test_the_line_that_compiles_a_program(self):
         """With a startup code and a linker script for no board. The program is not run."""
         self.built("cortex-m4")
-        line, = re.findall(r"^arm-none-eabi-gcc .*\n.*$", text_of("experiments/microcontrollers/README.md"), re.M)
+        line, = re.findall(r"^arm-none-eabi-gcc .*\n.*$", text_of("examples/microcontrollers/README.md"), re.M)
         folder = temporary_folder(self)
-        for name in ("include", "experiments"):
+        for name in ("include", "examples"):
             os.symlink(path(name), os.path.join(folder, name))
         files = {"main.c": RECEIVER.replace(b"void entry", b"int main"), "startup.c": STARTUP, "board.ld": BOARD}
         for name, text in files.items():

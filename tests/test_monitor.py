@@ -1,4 +1,4 @@
-"""examples/monitor: several stations beside decode and examples/json, metrics, the unit file, GNU parallel."""
+"""programs/monitor: several stations beside decode and programs/json, metrics, the unit file, GNU parallel."""
 import contextlib
 import json
 import os
@@ -14,7 +14,7 @@ from tests.needed import needs
 from tests.package import PackageCase
 from tests.support import PROGRAM, path, temporary_folder, text_of
 
-MONITOR, JSON = path("examples/monitor"), path("examples/json")
+MONITOR, JSON = path("programs/monitor"), path("programs/json")
 SECONDS = 120
 # in which an object or a file is there, on a busy machine
 PROMPT = 20
@@ -53,7 +53,7 @@ def log_by_chance(names, dwell, seed):
 
 
 def decoded(log, dwell):
-    """Returns the objects that decode and examples/json make of a log."""
+    """Returns the objects that decode and programs/json make of a log."""
     call = '"$0" decode --pi C201 --m "$1" | "$2" --pi C201'
     done = subprocess.run(["sh", "-c", call, PROGRAM, str(dwell), JSON], input="\n".join(log).encode(),
                           stdout=subprocess.PIPE, timeout=SECONDS)
@@ -323,7 +323,7 @@ class Monitor(PackageCase):
     def test_the_guides_lines_share_stations_among_machines(self):
         """This machine takes the place of two, and the feed prints a text of each station."""
         split, share = re.search(r"^ +(split .*)\n +(parallel .*)$", text_of("docs/RECEIVER.md"), re.M).groups()
-        self.check("the guide's hosts", "-S one,two" in share and "/opt/rdsrt/examples/monitor" in share, True)
+        self.check("the guide's hosts", "-S one,two" in share and "/opt/rdsrt/bin/rdsrt-monitor" in share, True)
         place = os.path.join(self.folder, "share")
         os.mkdir(place)
         stations = [f"S{number}" for number in range(7)]
@@ -333,7 +333,7 @@ class Monitor(PackageCase):
         with open(feed, "w", encoding="utf-8") as file:
             file.write(f"#!/bin/sh\nwhile read name rest; do echo \"$name {HI}\"; done < \"$1\"\n")
         os.chmod(feed, 0o755)
-        call = f"{split}\n{share}".replace("-S one,two", "-S :").replace("/opt/rdsrt/examples/monitor", MONITOR)
+        call = f"{split}\n{share}".replace("-S one,two", "-S :").replace("/opt/rdsrt/bin/rdsrt-monitor", MONITOR)
         paths = {**self.names, "PATH": place + os.pathsep + self.names["PATH"], "HOME": place}
         done = subprocess.run(["bash", "-c", call], cwd=place, capture_output=True, timeout=SECONDS, env=paths)
         shown = sorted((it["station"], it["radiotext"]) for it in map(json.loads, done.stdout.splitlines()))
@@ -346,7 +346,7 @@ class Monitor(PackageCase):
         """Its commands are there."""
         place = os.path.join(self.folder, "rdsrt-monitor.service")
         with open(place, "w", encoding="utf-8") as file:
-            file.write(text_of("examples/monitor.service"))
+            file.write(text_of("programs/monitor.service"))
         done = subprocess.run(["systemd-analyze", "verify", place], stdout=subprocess.PIPE, stderr=subprocess.STDOUT,
                               timeout=SECONDS)
         self.check("messages", [it for it in done.stdout.decode().splitlines() if "rdsrt-monitor" in it], [])

@@ -14,7 +14,7 @@ import crates
 
 CRATE = r"(?<![\w/.-])rds_[a-z_]+\b"
 PARTS = "src|specs|proofs|must-fail|edits"
-FOLDER = rf"(?:crates|docs|tests|tools|bench|examples|experiments|include|page|{PARTS})/[\w./-]*\w"
+FOLDER = rf"(?:crates|docs|tests|tools|bench|examples|include|programs|page|{PARTS})/[\w./-]*\w"
 # no .log, .csv or .txt: without a folder such a file is a user's
 FILE = r"[\w/-]+(?:\.[\w-]+)*\.(?:rt|antt|py|js|c|h|md|edit|html|css|png)\b"
 PATH = rf"(?<![\w/.$-])(?:\.\./)*({FOLDER}|{FILE})"

@@ -107,7 +107,7 @@ class Road:
         b.size(1280, 900)
 
     def test_a_letter_that_the_table_lacks_has_another_in_its_place(self):
-        """As examples/station sends it."""
+        """As programs/station sends it."""
         b = self.b
         b.run("probe.stopRoad()")
         for letter, sent in b.run("RDSRT_CLOSEST").items():

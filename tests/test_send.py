@@ -1,4 +1,4 @@
-"""examples/send: an encoder over TCP or a serial port gets each text of `decode` once, with its escapes undone, and nothing
+"""programs/send: an encoder over TCP or a serial port gets each text of `decode` once, with its escapes undone, and nothing
 else."""
 import contextlib
 import os
@@ -14,7 +14,7 @@ import time
 from tests.support import PROMPT, SECONDS, Case, path, text_of
 from tests.test_commands import ran
 
-SEND = path("examples/send")
+SEND = path("programs/send")
 # lines of decode: what station sets first, a text with a quotation mark, what a receiver drops, and other parts
 LINES = r'''128 text ""
 384 text "Say \x22Hi\x22 - Déjà Vu"
@@ -64,7 +64,7 @@ class Send(Case):
 
     def test_the_line_of_the_page(self):
         """The pipe of docs/AIR.md, for some slots: the empty text that the station sets first does not go out."""
-        call = re.search(r"^    (examples/station .* examples/send) HOST:PORT$", text_of("docs/AIR.md"), re.M)[1]
+        call = re.search(r"^    (programs/station .* programs/send) HOST:PORT$", text_of("docs/AIR.md"), re.M)[1]
         with encoder() as (place, got):
             call = call.replace("now.txt", "--at-once --slots 1300 <(yes HI | head -1)")
             output = ran(f"{call} {place} 2>/dev/null")

@@ -17,11 +17,16 @@ ADDRESSES = ("homepage", "reports")
 VERSION = c_library.header_version()
 
 
-def played(tree, environment=None):
-    """Returns a function that plays lines of sh at the top of the tree."""
+def played(tree, folder=".", environment=None):
+    """Returns a function that plays lines of sh in a folder of the tree. The programs are in its bin, and in PATH."""
+    programs = os.path.join(tree, "bin")
+    shutil.copytree(package.installed_programs(), programs, symlinks=True)
+    os.symlink(PROGRAM, os.path.join(programs, "rdsrt"))
+    names = {**(environment or os.environ), "PATH": f"{programs}:{os.environ['PATH']}"}
+
     def run(call):
-        done = subprocess.run(["sh", "-c", call], cwd=tree, stdout=subprocess.PIPE, stderr=subprocess.DEVNULL,
-                              timeout=SECONDS, env=environment)
+        done = subprocess.run(["sh", "-c", call], cwd=os.path.join(tree, folder), stdout=subprocess.PIPE,
+                              stderr=subprocess.DEVNULL, timeout=SECONDS, env=names)
         return done.stdout.decode()
     return run
 
@@ -41,23 +46,34 @@ class Pages(Case):
             to = os.path.join(self.tree, place)
             os.makedirs(os.path.dirname(to), exist_ok=True)
             if os.path.isdir(path(name)):
-                shutil.copytree(path(name), to)
+                shutil.copytree(path(name), to, ignore=shutil.ignore_patterns("microcontrollers", "__pycache__"))
             else:
                 shutil.copy(path(name), to)
         self.assertEqual(output([SHIPPED, layout, self.tree]), (0, b""))
 
+    def test_install(self):
+        """The commands of the pages that ./install lays down run in their folder."""
+        doc = "share/doc/rdsrt"
+        self.lay("install", {"examples": f"{doc}/examples"})
+        shipped_pages.links(self.check, self.tree)
+        pages, run = shipped_pages.pages(self.tree), played(self.tree, doc)
+        self.check("it plays commands", shipped_pages.commands(self.check, self.tree, pages, run) > 15, True)
+        text = "".join(map(text_of, pages))
+        self.check("no path of a checkout", re.findall(r"(?<![\w/])programs/\w+|(?<![./])\./rdsrt", text), [])
+        self.check("files that no install has", [it for it in re.findall(r"\bexamples/[\w./-]*\w", text)
+                                                if not os.path.exists(os.path.join(self.tree, doc, it))], [])
+
     def test_tarball(self):
         """The pages but README, whose commands need the C library."""
-        self.lay("tarball", {"examples": "share/rdsrt/examples", "python/src": "share/rdsrt/python/src",
+        self.lay("tarball", {"examples": "share/doc/rdsrt/examples", "python/src": "share/rdsrt/python/src",
                              "include/rdsrt.h": "include/rdsrt.h", "tools/tarball.md": "README.md",
                              "page/index.html": "share/rdsrt/page/index.html"})
-        os.mkdir(os.path.join(self.tree, "bin"))
-        os.symlink(PROGRAM, os.path.join(self.tree, "bin/rdsrt"))
+        run = played(self.tree)
         shipped_pages.links(self.check, self.tree)
         readme, *among = shipped_pages.pages(self.tree)
         self.check("the first page", os.path.basename(readme), "README.md")
         shipped_pages.names(self.check, self.tree, among)
-        self.check("it plays commands", shipped_pages.commands(self.check, self.tree, among, played(self.tree)) > 15, True)
+        self.check("it plays commands", shipped_pages.commands(self.check, self.tree, among, run) > 15, True)
         left = [page for page in shipped_pages.pages(self.tree) if re.search(r"(?<![./])\./rdsrt", text_of(page))]
         self.check("pages with the command of the repository", left, [])
 
@@ -66,7 +82,7 @@ class Pages(Case):
         self.lay("debian", {"examples": f"{doc}/examples", "include/rdsrt.h": "usr/include/rdsrt.h"})
         shipped_pages.links(self.check, self.tree)
         guide = "".join(text_of(os.path.join(self.tree, doc, f"{it}.md")) for it in ("TEST", "STATION", "RECEIVER"))
-        for word in ("examples/json", "examples/monitor", "/opt/rdsrt", "./rdsrt"):
+        for word in ("programs/", "/opt/rdsrt", "./rdsrt"):
             self.check(f"the pages of Debian have no {word}", word in guide, False)
         for word in ("| rdsrt-json |", "| rdsrt-monitor {}"):
             self.check(f"the pages of Debian have {word}", word in guide, True)
@@ -90,18 +106,16 @@ class Uses(package.PackageCase):
     @needs("jq")
     def test_what_a_user_of_the_packages_types_first(self):
         """tests/release does the same where they are installed."""
-        folder, programs = temporary_folder(self), temporary_folder(self)
-        for name, at in (("rdsrt", PROGRAM), ("rdsrt-json", path("examples/json")), ("rdsrt-monitor", path("examples/monitor"))):
-            os.symlink(at, os.path.join(programs, name))
-        names = {**self.names, "PATH": programs + os.pathsep + os.environ["PATH"], "LC_ALL": "C.UTF-8",
-                 "examples": path("examples")}
+        folder = temporary_folder(self)
+        names = {**self.names, "LC_ALL": "C.UTF-8", "examples": path("examples")}
+        run = played(folder, environment=names)
         for name, call, wanted in shipped_pages.USES:
-            self.check(name, played(folder, names)(call), wanted)
+            self.check(name, run(call), wanted)
 
 
 class About(Case):
     """The man page, the Debian packages and the wheel of a repository by its file ABOUT, which has an address or has none."""
-    FILES = ("CHANGELOG.md", "docs", "examples", "include", "python", "tools")
+    FILES = ("CHANGELOG.md", "docs", "examples", "include", "programs", "python", "tools")
     ADDRESS = {"homepage": "https://example.org/rdsrt", "reports": "https://example.org/rdsrt/issues"}
     MAINTAINER = "Ada Lovelace <ada@example.org>"
 

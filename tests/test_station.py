@@ -1,4 +1,4 @@
-"""examples/station: `rdsrt encode` takes its rows and refuses no text and no name, and a restart shows no mix to old
+"""programs/station: `rdsrt encode` takes its rows and refuses no text and no name, and a restart shows no mix to old
 radios.
 
 The expected rows follow from the rules: nothing for the first M + K slots, then the empty text and the last name with
@@ -18,7 +18,7 @@ from tests.needed import needs
 from tests.slot import SLOT
 from tests.support import PROGRAM, SECONDS, Case, bytes_of, path
 
-STATION = path("examples/station")
+STATION = path("programs/station")
 SEED = 20261125
 LOST = "---- ---- ---- ----"
 # runs a station by a clock of the test: it waits for a line in place of each sleep

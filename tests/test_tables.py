@@ -11,7 +11,7 @@ DWELLS = [
     ("python/src/rdsrt/_library.py", r"\nDEFAULT_DWELL = "),
     ("page/ui/app.js", r"DEFAULTS = \{ m: "),
     ("page/index.html", r'id="log-m" min="1" max="65535" value="'),
-    ("examples/station", r'"--m", type=int, default='),
+    ("programs/station", r'"--m", type=int, default='),
     ("docs/TEST.md", r"The default is "),
 ]
 # each table of names: a file, and the pattern in front of the names between quotation marks

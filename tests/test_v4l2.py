@@ -1,4 +1,4 @@
-"""examples/v4l2: the blocks that a radio of Linux gives become lines with times, and `rdsrt slots` counts their slots.
+"""programs/v4l2: the blocks that a radio of Linux gives become lines with times, and `rdsrt slots` counts their slots.
 
 The radios here are computed: their drivers drop blocks, give wrong ones and corrected ones, and the program reads late at
 times.
@@ -17,7 +17,7 @@ import time
 from tests.slot import SLOT
 from tests.support import PROGRAM, PROMPT, SECONDS, Case, path, temporary_folder
 
-V4L2 = path("examples/v4l2")
+V4L2 = path("programs/v4l2")
 CORRECTED, ERROR, INVALID = 0x40, 0x80, 7
 RADIOS, GROUPS = 60, 400
 STEP = 0.005                                                 # seconds between two reads

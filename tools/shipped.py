@@ -14,8 +14,8 @@ from typing import NamedTuple
 
 ROOT = os.path.dirname(os.path.dirname(os.path.abspath(__file__)))
 MANUAL = "docs/man/rdsrt.1"
-INSTALLED = ("docs/TEST.md", "docs/STATION.md", "docs/RECEIVER.md", "docs/FORMATS.md", "docs/proof/DEFINITIONS.md")
-DOCS = (*INSTALLED, "docs/AIR.md", "docs/COMPATIBILITY.md", "docs/TRUST.md", "docs/proof/PROOFS.md", "CHANGELOG.md")
+INSTALLED = ("docs/TEST.md", "docs/STATION.md", "docs/RECEIVER.md", "docs/AIR.md", "docs/FORMATS.md", "docs/proof/DEFINITIONS.md")
+DOCS = (*INSTALLED, "docs/COMPATIBILITY.md", "docs/TRUST.md", "docs/proof/PROOFS.md", "CHANGELOG.md")
 LINK = re.compile(r"!?\[([^\]]*)\]\(([^)\s#]*)(?:#([^)\s]*))?\)")
 
 
@@ -33,31 +33,42 @@ def docs_in(folder, pages=DOCS):
     return {it: f"{folder}/{os.path.basename(it)}" for it in pages}
 
 
-UNIT = "usr/lib/systemd/system/rdsrt-monitor.service"
-LIBRARY = (r"(?m)^Environment=RDSRT_LIBRARY=.*\n", "")
+def examples_in(folder):
+    return {"examples/README.md": f"{folder}/README.md",
+            **{f"programs/{it}.service": f"{folder}/rdsrt-{it}.service" for it in UNITS}}
+
+
+UNITS = ("monitor",)
+# a word of a command, and not a part of a longer path
+WORD = r"(?<![\w./-])"
 LAYOUTS = {
-    # the pages are those that include/rdsrt.h names, and those for the users of the program and the library
-    "install": Layout({MANUAL: "share/man/man1/rdsrt.1", **docs_in("share/doc/rdsrt", INSTALLED)}, {},
-                      [(r"\./rdsrt\b", "rdsrt")]),
+    # the pages are those that include/rdsrt.h names, and those for the users of the programs and the library; commands with
+    # a file run in the folder of the pages
+    "install": Layout({MANUAL: "share/man/man1/rdsrt.1", **docs_in("share/doc/rdsrt", INSTALLED),
+                       **examples_in("share/doc/rdsrt/examples")}, {},
+                      [(r"\./rdsrt\b", "rdsrt"), (WORD + r"programs/(\w+\.service)", r"examples/rdsrt-\1"),
+                       (WORD + r"programs/(\w)", r"rdsrt-\1"), ("Run each command in the top folder",
+                                                               "Run each command in the folder share/doc/rdsrt of the install"),
+                       ("in the source folder", "in the folder share/doc/rdsrt of the install")]),
     # all commands run in the top folder
     "tarball": Layout(
-        {**docs_in("share/doc/rdsrt"), MANUAL: "share/man/man1/rdsrt.1", "examples/README.md": "share/rdsrt/examples/README.md",
-         "examples/monitor.service": "share/rdsrt/examples/monitor.service",
+        {**docs_in("share/doc/rdsrt"), MANUAL: "share/man/man1/rdsrt.1", **examples_in("share/doc/rdsrt/examples"),
          "python/README.md": "share/rdsrt/python/README.md"},
         {"README.md": ("README.md", "tools/tarball.md"), "include/rdsrt.h": ("include/rdsrt.h", "include/rdsrt.h")},
-        [(r"\./rdsrt\b", "bin/rdsrt"), (r"(?<![\w./-])(/opt/rdsrt/)?examples/", r"\1share/rdsrt/examples/"), LIBRARY,
+        [(r"\./rdsrt\b", "bin/rdsrt"), (WORD + r"programs/(\w+\.service)", r"share/doc/rdsrt/examples/rdsrt-\1"),
+         (WORD + r"programs/(\w)", r"bin/rdsrt-\1"), (WORD + "examples/", "share/doc/rdsrt/examples/"),
          ("in the source folder", "in the top folder")]),
     # all commands run in any folder
     "debian": Layout(
         {**docs_in("usr/share/doc/rdsrt"), "CHANGELOG.md": "usr/share/doc/rdsrt/changelog",
-         MANUAL: "usr/share/man/man1/rdsrt.1",
-         "examples/README.md": "usr/share/doc/rdsrt/examples/README.md", "examples/monitor.service": UNIT,
+         MANUAL: "usr/share/man/man1/rdsrt.1", **examples_in("usr/share/doc/rdsrt/examples"),
+         "programs/monitor.service": "usr/lib/systemd/system/rdsrt-monitor.service",
          "python/README.md": "usr/share/doc/python3-rdsrt/README.md"},
         {"include/rdsrt.h": ("usr/include/rdsrt.h", "include/rdsrt.h")},
-        [(r"\./rdsrt\b", "rdsrt"), (r"(?m)^#   (?:useradd|cp) .*\n", ""), (r"rdsrt\s+in\s+/opt/rdsrt,\s+", ""), LIBRARY,
-         (r"(?<![\w./-])(?:/opt/rdsrt/)?examples/(json|monitor)\b(?!\.)", r"rdsrt-\1"),
-         (r"(?<![\w./-])examples/c/", "/usr/share/doc/librdsrt-dev/examples/"),
-         (r"(?<![\w./-])examples/", "/usr/share/doc/rdsrt/examples/"),
+        [(r"\./rdsrt\b", "rdsrt"), (r"(?m)^#   (?:useradd|cp programs/monitor) .*\n", ""),
+         (r"rdsrt\s+(?:is\s+)?installed\s+in\s+/opt/rdsrt,\s+(?:and\s+)?", ""), ("/opt/rdsrt/bin/", ""),
+         (WORD + r"programs/(\w+\.service)", r"/usr/share/doc/rdsrt/examples/rdsrt-\1"), (WORD + r"programs/(\w)", r"rdsrt-\1"),
+         (WORD + "examples/c/", "/usr/share/doc/librdsrt-dev/examples/"), (WORD + "examples/", "/usr/share/doc/rdsrt/examples/"),
          (r"(?m)^(?:The examples with a file run in the source folder|Run each command in the top folder)\. ?\n?", "")]),
     "wheel": Layout({"python/README.md": "README.md"}, {}, []),
 }

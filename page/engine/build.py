@@ -68,7 +68,7 @@ def tunnel(folder, receiver=1):
 
 
 def closest_letters():
-    """What examples/station sends for letters of Europe that rdsrt's character table lacks, if the table has it: the nearest ones
+    """What programs/station sends for letters of Europe that rdsrt's character table lacks, if the table has it: the nearest ones
     of the Python package."""
     sys.path.append(os.path.join(os.path.dirname(PAGE_FOLDER), "python/src"))
     from rdsrt.characters import PRINTED, closest

@@ -1,7 +1,7 @@
 #!/usr/bin/env python3
 """Compiles the C library for a 32-bit processor. The result is tested and NOT proved.
 
-usage: experiments/microcontrollers/narrow.py cortex-m4|cortex-m0plus|armv7
+usage: examples/microcontrollers/narrow.py cortex-m4|cortex-m0plus|armv7
 
 The result is out/TARGET/librdsrt.a in this folder.
 
@@ -76,7 +76,7 @@ KNOWN = re.compile("|".join(f"(?:{it})" for it in FORMS))
 
 
 def stop(why):
-    sys.exit(f"experiments/microcontrollers/narrow.py: {why}")
+    sys.exit(f"examples/microcontrollers/narrow.py: {why}")
 
 
 def ran(words, at=HERE):
@@ -148,7 +148,7 @@ def narrowed(code, target_lines, header):
 
 def main():
     if sys.argv[1:] not in [[it] for it in TARGETS]:
-        sys.exit(f"usage: experiments/microcontrollers/narrow.py {'|'.join(TARGETS)}")
+        sys.exit(f"usage: examples/microcontrollers/narrow.py {'|'.join(TARGETS)}")
     tools, machine = TARGETS[sys.argv[1]]
     made = os.path.join(OUT, sys.argv[1])
     os.makedirs(made, exist_ok=True)
