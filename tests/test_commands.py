@@ -71,6 +71,7 @@ RUN_BY = [
     (r"split -n l/2 stations|feed \| rdsrt-monitor ", "test_monitor"),
     (r"tools/held$", "test_held"),
     (r"tools/progress$", "test_gate.Progress"),
+    (r"programs/json --times ", "test_json.Filter.test_the_times_of_a_log"),
     (r"rdsrt encode --pi C201 script \| rdsrt-transmit ", "test_fm"),
     (r"\./rdsrt encode --pi C201 --pty 10 --m 8 examples/chanson.csv \| programs/transmit ",
      "test_fm.Pages.test_the_trial_without_hardware"),

@@ -7,7 +7,7 @@ import sys
 import time
 
 from tests.package import PackageCase
-from tests.support import PROGRAM, Case, path
+from tests.support import PROGRAM, Case, path, temporary_folder
 
 JSON = path("programs/json")
 SECONDS = 120
@@ -98,6 +98,19 @@ class Filter(Case):
         with open("/dev/full", "wb") as full:
             done = subprocess.run([JSON], input=b'0 text "HI"\n', stdout=full, stderr=subprocess.PIPE, timeout=SECONDS)
         self.check("full output", (done.returncode, done.stderr.startswith(b"json: ")), (1, True))
+
+
+    def test_the_times_of_a_log(self):
+        """Each slot has the last time of the lines up to its own."""
+        log = os.path.join(temporary_folder(self), "log")
+        with open(log, "w", encoding="ascii") as file:
+            file.write("# a comment\nC201 2140 4849 0D20\nC201 2140 4849 0D20 @2024/06/01 07:58:12.08 more\n\n"
+                       "---- ---- ---- ----\nC201 2140 4849 0D20 12.5\n")
+        status, objects, _ = ran("".join(f'{slot} text "HI"\n' for slot in range(5)) + "fault line 9\n", "--times", log)
+        self.check("times", (status, [it.get("rx_time", "none") for it in objects]),
+                   (1, [None, "2024-06-01T07:58:12.08", "2024-06-01T07:58:12.08", "12.5", "12.5", "12.5"]))
+        self.check("no log", ran('0 text "HI"\n', "--times", "/nowhere")[:2], (1, []))
+        self.check("both times", ran("", "--time", "--times", log)[:2], (2, []))
 
 
 class Live(Case):
