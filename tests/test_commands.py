@@ -31,18 +31,25 @@ SLOTS = f"{HI} @2024/06/01 07:58:12.000\n{LOST}\n{YO} @2024/06/01 07:58:12.176\n
 OTHER = f"{HI}\nC201 3156 1234 ABCD\nC201 B140 2008 1234\nc201 b148 2002 0000\n{LOST}\n"
 # a station with three faults: a flag that comes back at once, a text without a flip, a flag that comes back again
 FAULTY = [HI, YO, HA, YO, *[LOST] * 200, HI, HA, *[LOST] * 200, YO, HI, YO.replace("594F", "4142")]
+
+
+def taken(form, groups, lost=0, times=0):
+    """Returns what programs/lines says of an input of this form with groups of C201."""
+    return (f"lines: taken for {form}\nlines: slots: {groups + lost}; whole groups: {groups}; groups without a block: 0; lost "
+            f"slots: {lost}; slots with a time: {times}\nlines: most groups are of C201: {groups} of {groups}\n")
+
+
 # the first words of a command in a page, the files and programs of the reader, its output, and a file that it writes
 RUN = [
     ("./rdsrt slots spy.log > station.log", {"spy.log": SPY}, {}, "", ("station.log", SLOTS)),
     ("./rdsrt audit --running --pi C201 spy.log", {"spy.log": SPY.replace(".176", ".088")}, {},
      "yes 2\nrdsrt: judged in 2 slots: 2 texts, 0 names, 0 pairs of tags\n", None),
-    ("sed -nE 's/^G:", {"radio.txt": "PC201\nG:C201214048490D20\nS20\n"}, {}, '0 text "HI"\n', None),
     ("rtl_fm -M fm -l 0 -A std -p 0 -s 171k -g 40 -F 9 -f 98.0M | redsea ", {},
      {"rtl_fm": "true", "redsea": f"printf '{SPY}'"}, "", ("station.log", SLOTS)),
-    ("sed -E 's/^(.*\\S) +", {"times.log": re.sub("(?m)^(.*) (@.*)$", r"\2 \1\r", SPY)}, {}, "",
-     ("station.log", SLOTS)),
-    ("grep -oiE '^[0-9a-f]{4} ' station.log",
-     {"station.log": f"# F201\nF201 0000 0000 0000\n{HI}\n{LOST}\n{YO.lower()}\n"}, {}, "C201\n", None),
+    ("programs/lines times.log | ./rdsrt slots", {"times.log": re.sub("(?m)^(.*) (@.*)$", r"\2 \1\r", SPY)}, {},
+     taken("blocks with spaces between them; times with a date stand before the blocks", 2, times=2), ("station.log", SLOTS)),
+    ("programs/lines station.log > /dev/null", {"station.log": f"{HI}\n{LOST}\n{YO.lower()}\n"}, {},
+     taken("blocks with spaces between them", 2, lost=1), None),
     ("sed -E 's/^([0-9A-Fa-f]{4} [Bb][0-7].[08]) ", {"station.log": f"{HI}\nC201 B140 0000 0000\n"}, {},
      "yes 2\nrdsrt: judged in 2 slots, 1 without a group: 1 text, 0 names, 0 pairs of tags\n", None),
     ("sed -E 's/^([0-9A-Fa-f]{4} [Bb][0-7].{2}) ", {"station.log": OTHER}, {},
@@ -72,6 +79,8 @@ RUN_BY = [
     (r"tools/held$", "test_held"),
     (r"tools/progress$", "test_gate.Progress"),
     (r"programs/json --times ", "test_json.Filter.test_the_times_of_a_log"),
+    (r"(?:programs/|rdsrt-)lines (?:recorded|radio)", "test_lines"),
+    (r"(?:programs/|rdsrt-)letter recorded.txt", "test_letter"),
     (r"rdsrt encode --pi C201 script \| rdsrt-transmit ", "test_fm"),
     (r"\./rdsrt encode --pi C201 --pty 10 --m 8 examples/chanson.csv \| programs/transmit ",
      "test_fm.Pages.test_the_trial_without_hardware"),
@@ -110,7 +119,7 @@ NOT_HERE = [
     (r"tools/edits(?: NAME)?$", "it proves for minutes; test_edits tests all that needs no prover"),
     (r"bin/rdsrt decode |pip install ", "tests/release runs it in a fresh system"),
     (r"bench/", "measures for minutes, by hand when the code has changed"),
-    (r"rtl_fm |(?:programs/|rdsrt-)v4l2 --frequency ", "it needs a tuner"),
+    (r"rtl_fm |(?:programs/|rdsrt-)v4l2 --frequency |wsl ", "it needs a tuner, or Windows"),
     (r"apt-get (?:install |update$)", "installs packages"),
     (r"\./rdsrt$", "the program without arguments, named in a sentence"),
 ]

@@ -25,7 +25,8 @@ OTHERS = {"Stdin", "Stdout", "Exitval"}
 # one name, or several in a row
 NAMES = r"((?:`?\w+`?(?:, and |, | and )?)+)"
 # files that a command or a user makes
-MADE = {"hi.c", "tests/out", "tests/out/gate.log", "page/out", "page/out/index.html", "crates/rds_ffi/out/librds_ffi.a",
+MADE = {"hi.c", "letter.md", "tests/out", "tests/out/gate.log", "page/out", "page/out/index.html",
+        "crates/rds_ffi/out/librds_ffi.a",
         "crates/NAME/edits/what_is_wrong.edit"}
 # paragraphs that each cite one name that does not exist
 STALE = ["The crate rds_nowhere.", "`DecodesNowhere` says so.", "See `specs/Nowhere`.", "See tests/nowhere.py.",
