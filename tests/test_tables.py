@@ -36,14 +36,15 @@ class Tables(ProgramCase):
         for path, before in DWELLS:
             self.check(f"{path}: {before}", re.findall(before + r"(\d+)", text_of(path)), [wanted])
 
-    def test_a_slot_of_the_page_is_one_of_slots(self):
+    def test_a_slot_is_one_of_slots_in_each_language(self):
         """In so many microseconds 18 groups are lost, and with one more 19."""
         for apart, lost in ((NINETEEN_SLOTS, 18), (NINETEEN_SLOTS + 1, 19)):
             log = "".join(f"C201 2140 4849 0D20 {time / 1e6:.6f}\n" for time in (0, apart))
             _, output = ran(["slots", "--grain", "0"], log.encode())
             self.check(f"{apart} us", output.count(b"----\n"), lost)
-        bits, rate = re.search(r"const SLOT = (\d+) / ([\d.]+);", text_of("page/model/lines.js")).groups()
-        self.check("page/model/lines.js", round(19e6 * int(bits) / float(rate)), NINETEEN_SLOTS)
+        for place in ("page/model/lines.js", "programs/station", "programs/letter"):
+            bits, rate = re.search(r"\bSLOT = (\d+) / ([\d.]+)\b", text_of(place)).groups()
+            self.check(place, round(19e6 * int(bits) / float(rate)), NINETEEN_SLOTS)
 
     def test_the_names_of_content_types_are_those_of_the_output(self):
         wanted = [shown_class(number) for number in range(1, 13)]

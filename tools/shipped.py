@@ -38,7 +38,7 @@ def examples_in(folder):
             **{f"programs/{it}.service": f"{folder}/rdsrt-{it}.service" for it in UNITS}}
 
 
-UNITS = ("monitor",)
+UNITS = ("monitor", "station")
 # a word of a command, and not a part of a longer path
 WORD = r"(?<![\w./-])"
 LAYOUTS = {
