@@ -62,6 +62,57 @@ class Send(Case):
         self.check("what it sent", (status, output, errors),
                    (0, '384 RT1=Say "Hi" - Déjà Vu\n700 RT1=a RT1=b ß\n900 RT1=\n', ""))
 
+    def test_tags_go_out_when_decode_prints_them_and_zeros_when_it_drops_them(self):
+        """The place of each piece in the text, and lengths less one. The second of two equal pieces has the second place."""
+        lines = """5 text "Queen - Queen"
+133 item 1 1
+133 tag1 ITEM.ARTIST "Queen"
+133 tag2 ITEM.TITLE "Queen"
+400 text none incomplete
+400 item none
+400 tag1 none
+400 tag2 none
+420 text "D\\xE1 - No"
+548 item 0 1
+548 tag1 12 "No"
+"""
+        got, status, output, _ = received(lines, "--tags", "RTP={type1},{start1},{length1},{type2},{start2},{length2};{toggle}")
+        wanted = ["5 RT1=Queen - Queen", "133 RTP=4,0,4,0,0,0;1", "133 RTP=4,0,4,1,8,4;1", "400 RTP=0,0,0,1,0,4;1",
+                  "400 RTP=0,0,0,0,0,0;1", "420 RT1=DÅ - No", "548 RTP=12,5,1,0,0,0;0"]
+        self.check("what it sent", (status, output.splitlines()), (0, wanted))
+        self.check("what the encoder gets", got, b"".join(it.split(" ", 1)[1].encode("latin-1").replace(b"\xc5", b"\xe1") + b"\r\n"
+                                                          for it in wanted))
+        self.check("no tags without --tags", received(lines)[2].count("RTP"), 0)
+
+    def test_a_refused_command_is_seen_and_sent_again(self):
+        for answers, status, sent in (([b"+"], 0, 1), ([b"!", b"ok +\r\n"], 0, 2), ([b"!"] * 3, 1, 3)):
+            with self.answering(answers) as (place, got):
+                done = subprocess.run([SEND, "--expect", "+", place], input=b'5 text "HI"\n', capture_output=True, timeout=SECONDS)
+            self.check(f"{answers}", (done.returncode, b"".join(got)), (status, b"RT1=HI\r\n" * sent))
+            refused = [it for it in done.stderr.decode().splitlines() if "answered" in it]
+            self.check(f"{answers}: what is said", refused,
+                       [f"send: the encoder answered {it!r} to b'RT1=HI\\r\\n'" for it in answers if b"+" not in it])
+        self.check("the end", done.stderr.decode().splitlines()[-1], f"send: {place}: the encoder refused a command 3 times")
+        self.check("what was sent", done.stdout, b"")
+
+    @contextlib.contextmanager
+    def answering(self, answers):
+        """An encoder that gives these answers to one command each. Gives its HOST:PORT, and a list of the commands."""
+        got = []
+
+        def play():
+            connection, _ = server.accept()
+            with connection, connection.makefile("rb") as file:
+                for answer in answers:
+                    got.append(file.readline())
+                    connection.sendall(answer)
+                file.read()
+        with socket.create_server(("127.0.0.1", 0)) as server:
+            thread = threading.Thread(target=play, daemon=True)
+            thread.start()
+            yield f"127.0.0.1:{server.getsockname()[1]}", got
+            thread.join(PROMPT)
+
     def test_the_line_of_the_page(self):
         """The pipe of docs/AIR.md, for some slots: the empty text that the station sets first does not go out."""
         call = re.search(r"^    (programs/station .* programs/send) HOST:PORT$", text_of("docs/AIR.md"), re.M)[1]
@@ -115,6 +166,6 @@ class Send(Case):
 
     def test_wrong_arguments(self):
         for words in (["nowhere"], ["host:70000"], ["host:"], ["--baud", "9601", "/dev/null"],
-                      ["--baud", "0", "/dev/null"], []):
+                      ["--baud", "0", "/dev/null"], [], ["--tags", "RTP={type3}", "/dev/null"]):
             done = subprocess.run([SEND, *words], input=b"", capture_output=True, timeout=SECONDS)
             self.check(f"{words}", (done.returncode, done.stdout), (2, b""))
