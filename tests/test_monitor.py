@@ -129,6 +129,19 @@ class Monitor(PackageCase):
         wanted = {(name, fault): 0 for name in "AB" for fault in faults}
         self.check("audit in the metrics", got, {**wanted, ("A", "Changed"): 2, ("A", "EarlyFlag"): 1})
 
+    def test_padding_and_another_group_of_tags(self):
+        """As `audit --padded` judges it, and as `decode --rtplus 12A` shows it."""
+        padded = ("C201 2140 4849 0D20", "C201 2141 2020 2020")
+        tagged = ("C201 3018 0000 4BD7", HI, "C201 C148 2002 0000")
+        lines = "".join(f"{name} {line}\n" for name in "AB" for line in padded)
+        lines += "".join(f"{name} {line}\n" for name in "CDE" for line in tagged) + "E C201 C148 2004 0000\n"
+        table = "A C201 audit\nB C201 128 padded audit\nC C201 rtplus 12A\nD C201\nE C201 8 rtplus 12A audit\n"
+        status, objects, _ = ran(self.folder, self.names, table, lines)
+        self.check("faults", (status, [(it["station"], it["fault"]) for it in objects if "fault" in it]),
+                   (0, [("A", "NotOneText"), ("E", "TagOutside")]))
+        tags = {it["station"]: it["radiotext_plus"]["tags"] for it in objects if (it.get("radiotext_plus") or {}).get("tags")}
+        self.check("tags", tags, dict.fromkeys("CE", [{"content-type": "item.title", "data": "HI"}]))
+
     def test_an_object_comes_while_the_pipe_stays_open(self):
         """The metrics are written anew while nothing comes."""
         table, metrics = os.path.join(self.folder, "stations"), os.path.join(self.folder, "live.prom")
@@ -159,7 +172,8 @@ class Monitor(PackageCase):
     def test_wrong_tables_and_arguments_are_refused(self):
         for table in ("A\n", "A C201 0\n", "A C20G\n", "A C201 8 9\n", "A C201\nA C201\n", "A 1C201\n",
                       "A C201 audit 8\n", "A +C20\n", "A C_20\n", "A 0xC2\n", "A C2\n", "A \u0663\u0662\u0661\u0660\n",
-                      "A C201 +8\n", "A C201 1_2\n"):
+                      "A C201 +8\n", "A C201 1_2\n", "A C201 padded\n", "A C201 audit audit\n", "A C201 rtplus\n",
+                      "A C201 rtplus 10A\n", "A C201 rtplus 12a\n", "A C201 sing\n"):
             status, objects, errors = ran(self.folder, self.names, table, f"A {HI}\n")
             line = table.count("\n")
             self.check(f"refused {table!r}", (status, objects, f"line {line} is not" in errors), (2, [], True))
