@@ -13,7 +13,7 @@ sys.path.insert(1, FOLDER)
 import narrow
 
 # for each Cortex-M a board of the emulator, and the end of its RAM: 4 MB, and 16 KB
-BOARDS = {"cortex-m4": ("mps2-an386", 0x20400000), "cortex-m0plus": ("microbit", 0x20004000)}
+BOARDS = {"cortex-m4": ("mps2-an386", 0x20400000), "cortex-m4f": ("mps2-an386", 0x20400000), "cortex-m0plus": ("microbit", 0x20004000)}
 BARE = ["--specs=rdimon.specs", "-Wl,--section-start=.vectors=0", "-Wl,-Tdata=0x20000000", "-Wl,-z,noexecstack"]
 # each program of a board, its argument, input and output; a group of tuner.c, and its text a dwell later
 PROGRAMS = [("tests/c/calls.c", "", b"", b"ok\n"), ("tests/c/any_bytes.c", c_library.ROUNDS, b"", b"ok\n"),
@@ -27,6 +27,14 @@ void entry(void) {
     rdsrt_receiver_view(&receiver, &view);
 }
 """
+# the same with the count of slots by times
+RADIO = b"""#include "radio.h"
+static struct radio radio; uint16_t blocks[4]; volatile uint64_t now;
+static void show(const struct radio *it, const struct rdsrt_view *was) { (void)it; (void)was; }
+void entry(void) { radio_init(&radio, 0xC201, 128, 0, show); radio_group(&radio, now, blocks); radio_time(&radio, now); }
+"""
+# nanoseconds of an instruction of the emulator, as its power of two
+SHIFT = 7
 # a startup code and a linker script, which lay out all that a program needs
 STARTUP = b"extern int main(void);\nvoid entry(void) { main(); for (;;) {} }\n"
 BOARD = b"""ENTRY(entry)
@@ -43,10 +51,10 @@ UNKNOWN = ["@other = global i32 0, align 4", "@static.9 = private constant [1 x 
            "  %x = getelementptr ptr, ptr %y, i64 1", "  %x = nonsense i32 %y"]
 
 
-def ran_on(board, program, argument="", given=b""):
+def ran_on(board, program, argument="", given=b"", more=()):
     """Returns the status and the output of a program on a board of the emulator."""
     arguments = f"enable=on,target=native,arg={os.path.basename(program)},arg={argument}"
-    return output(["qemu-system-arm", "-M", board, "-display", "none", "-monitor", "none", "-serial", "none",
+    return output(["qemu-system-arm", "-M", board, *more, "-display", "none", "-monitor", "none", "-serial", "none",
                    "-semihosting-config", arguments, "-kernel", program], given)
 
 
@@ -68,12 +76,20 @@ class Microcontrollers(Case):
         for source, argument, given, wanted in PROGRAMS:
             program = self.for_board(compiler, library, top, folder, source)
             self.check(source, ran_on(board, program, argument, given), (0, wanted))
-        place = 1 + (target != "cortex-m4")
-        said = re.search(r"(\d+) KB on a Cortex-M4, (\d+) KB on an M0\+", text_of("docs/RECEIVER.md"))
-        self.check(f"flash of a receiver alone for {target}, in KB", self.flash(compiler, library, folder), int(said[place]))
+        place, page = 1 + (target == "cortex-m0plus"), text_of("docs/RECEIVER.md")
+        said = re.search(r"(\d+) KB on a Cortex-M4, (\d+) KB on an M0\+", page)
+        self.check(f"flash of a receiver alone for {target}, in KB", self.flash(compiler, library, folder, RECEIVER)[0],
+                   int(said[place]))
+        said = re.search(r"radio\.h\)\) \| (\d+) bytes of memory; (\d+) KB of flash on a Cortex-M4, (\d+) KB on an M0\+", page)
+        self.check(f"flash and memory with radio.h for {target}", self.flash(compiler, library, folder, RADIO),
+                   (int(said[place + 1]), int(said[1])))
         said = re.search(r"([\d,]+) bytes on a Cortex-M4, ([\d,]+) on an M0\+", text_of("docs/RECEIVER.md"))
         room = int(said[place].replace(",", ""))
-        taken = int(ran_on(board, self.for_board(compiler, library, top, folder, "tests/c/stack.c"))[1])
+        program = self.for_board([*compiler, f"-DCOUNT={1 << SHIFT}"], library, top, folder, "tests/c/stack.c")
+        taken, mean, most = map(int, ran_on(board, program, more=["-icount", f"shift={SHIFT}"])[1].split())
+        if place == 1:
+            said = re.search(r"(\d+) on average, at most ([\d,]+)", page)
+            self.check("instructions of a call", (mean, most), (int(said[1]), int(said[2].replace(",", ""))))
         self.check(f"stack of a call for {target}", (taken <= room, taken), (True, taken))
 
     def for_board(self, compiler, library, top, folder, source):
@@ -84,17 +100,21 @@ class Microcontrollers(Case):
         self.check(f"{source} is built", output(words), (0, b""))
         return program
 
-    def flash(self, compiler, library, folder):
-        """Returns how much flash a receiver alone takes, as docs/RECEIVER.md says it."""
+    def flash(self, compiler, library, folder, source):
+        """Returns how much flash a program takes in KB, as docs/RECEIVER.md says it, and the memory of its largest struct."""
         program = os.path.join(folder, "alone")
-        words = [*compiler, "-Os", "-nostartfiles", "-Wl,-e,entry", "-Wl,--gc-sections", "-x", "c", "-", "-x", "none",
+        words = [*compiler, "-I", path("examples/c"), "-Os", "-nostartfiles", "-Wl,-e,entry", "-Wl,--gc-sections", "-x", "c", "-", "-x", "none",
                  library, "-o", program]
-        self.check("a receiver alone is built", output(words, RECEIVER)[0], 0)
+        self.check("a receiver alone is built", output(words, source)[0], 0)
         text, data = output(["arm-none-eabi-size", program])[1].split()[6:8]
-        return round((int(text) + int(data)) / 1000)
+        sizes = re.findall(rb"^[0-9a-f]+ ([0-9a-f]+) [bB]", output(["arm-none-eabi-nm", "-S", program])[1], re.M)
+        return round((int(text) + int(data)) / 1000), max(int(it, 16) for it in sizes)
 
     def test_cortex_m4(self):
         self.on_a_board("cortex-m4")
+
+    def test_cortex_m4f(self):
+        self.on_a_board("cortex-m4f")
 
     def test_cortex_m0plus(self):
         self.on_a_board("cortex-m0plus")

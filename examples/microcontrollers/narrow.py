@@ -1,7 +1,7 @@
 #!/usr/bin/env python3
 """Compiles the C library for a 32-bit processor. The result is tested and NOT proved.
 
-usage: examples/microcontrollers/narrow.py cortex-m4|cortex-m0plus|armv7
+usage: examples/microcontrollers/narrow.py cortex-m4|cortex-m4f|cortex-m0plus|armv7
 
 The result is out/TARGET/librdsrt.a in this folder.
 
@@ -25,6 +25,7 @@ CLANG, OUT = f"{KIT}/toolchain/bin/clang", os.path.join(HERE, "out")
 HEADER, MODULE = os.path.join(ROOT, "include/rdsrt.h"), os.path.join(folder("rds_ffi"), "out/rds_ffi.bc")
 # the start of the names of the C tools, and their words for the processor
 TARGETS = {"cortex-m4": ("arm-none-eabi", ["-mthumb", "-mcpu=cortex-m4", "-mfloat-abi=soft"]),
+           "cortex-m4f": ("arm-none-eabi", ["-mthumb", "-mcpu=cortex-m4", "-mfpu=fpv4-sp-d16", "-mfloat-abi=hard"]),
            "cortex-m0plus": ("arm-none-eabi", ["-mthumb", "-mcpu=cortex-m0plus", "-mfloat-abi=soft"]),
            "armv7": ("arm-linux-gnueabihf", ["-march=armv7-a", "-mfpu=vfpv3-d16", "-mfloat-abi=hard", "-fPIC"])}
 # the words that the kit gives clang for every processor

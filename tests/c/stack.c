@@ -1,5 +1,8 @@
 /* Prints the most bytes of stack that a call for a receiver took, over groups by chance. The stack below the caller is
- * painted before the call, and the deepest byte that has changed is looked for after it. */
+ * painted before the call, and the deepest byte that has changed is looked for after it.
+ *
+ * With COUNT, on a Cortex-M, it then prints the instructions of the call of a slot: the mean and the most. COUNT is the
+ * nanoseconds of an instruction in qemu (-icount), whose SysTick has a tick each 40 ns. */
 #include <rdsrt.h>
 #include <stdio.h>
 
@@ -25,8 +28,26 @@ static __attribute__((noinline)) int taken(void (*call)(void)) {
     return PAINTED - kept;
 }
 
+#ifdef COUNT
+static volatile uint32_t *const systick = (volatile uint32_t *)0xE000E010; /* control, reload, current */
+
+/* Returns the ticks of a call. */
+static __attribute__((noinline)) uint32_t ticks(void (*call)(void)) {
+    uint32_t before = systick[2];
+    call();
+    return (before - systick[2]) & 0xFFFFFF;
+}
+
+static void nothing(void) {}
+#endif
+
 int main(void) {
     uint32_t chance = 20261129;
+#ifdef COUNT
+    uint32_t sum = 0, longest = 0, empty;
+    systick[1] = 0xFFFFFF, systick[2] = 0, systick[0] = 5;
+    empty = ticks(nothing);
+#endif
     int most = taken(init);
     for (int it = 0; it < SLOTS; it++) {
         for (int block = 0; block < 4; block++) {
@@ -43,10 +64,18 @@ int main(void) {
             blocks[2] = 0x4041 | (blocks[2] & 0x0F0F);
             blocks[3] = 0x4041 | (blocks[3] & 0x0F0F);
         }
+#ifdef COUNT
+        /* the same slot is played twice: no message changes by that */
+        uint32_t now = ticks(slot) - empty;
+        sum += now, longest = now > longest ? now : longest;
+#endif
         int one = taken(slot), other = taken(show);
         most = one > most ? one : most;
         most = other > most ? other : most;
     }
     printf("%d\n", most);
+#ifdef COUNT
+    printf("%lu %lu\n", (unsigned long)(sum * 40 / COUNT / SLOTS), (unsigned long)(longest * 40 / COUNT));
+#endif
     return 0;
 }
