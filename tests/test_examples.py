@@ -15,7 +15,7 @@ FAULT = re.compile(r"^(?:# )?fault .*$", re.M)
 
 def rows():
     """Returns the rows of the table as lines, and their parts: file, command and line."""
-    text = text_of("examples/README.md")
+    text = text_of("examples/README.md").split("\n## Programs")[0]
     lines = [it for it in text.splitlines() if it.startswith("| `")]
     found = [it.groups() for it in ROW.finditer(text)]
     return lines, found

@@ -98,6 +98,10 @@ HABITS = {
              "in 1 of them both tags are empty, so no receiver shows them")],
     "lets a tag end outside its text": [
         Play([IN_11A, *OLD * 3, THIRTY], ["no 10 TagOutside"], radio=["NEWS AT TEN"])],
+    "sends the tags of a text some groups before its first segment": [
+        Play([IN_11A, *OLD * 3, FOUR, *BETWEEN * 3], ["yes 20"], radio=["NEWS AT TEN", "title NEWS", "none", "ABBA SOS"]),
+        Play([IN_11A, *OLD * 3, THIRTY, *BETWEEN * 3], ["no 10 TagOutside"]),
+        Play([IN_11A, *OLD * 2, FOUR, *BETWEEN, THIRTY], ["no 11 EarlyTag", "no 11 TagOutside"])],
     "sends RT+ in another group than 11A, for example in 12A": [
         Play([IN_12A, *OLD, *OLD, *BETWEEN, FOUR_IN_12A], ["yes 11"],
              "RT+ is in group 12A by the 3A groups, not in 11A: 1 group 12A was not judged. Give --rtplus 12A"),

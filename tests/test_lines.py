@@ -158,7 +158,8 @@ class Forms(Case):
             self.check(f"{how}", (status, lines), (0, wanted("@1970/01/01 {}")))
             self.check(f"{how} is said", [f"lines: the input is {it}" for it in how],
                        [it for it in notes if it.startswith("lines: the input is ")])
-        self.check("two files", ran(zipped(text, text)), (1, [], ["lines: the zip has 2 files: unpack it, and take one of them"]))
+        self.check("two files", ran(zipped(text, text)),
+                   (1, [], ["lines: the zip has 2 files: unpack it, and take one of them"]))
 
     def test_times(self):
         for words, time in TIMES:
@@ -228,7 +229,8 @@ class Radio(Case):
 
     def test_a_radio_at_a_serial_port(self):
         master, slave = pty.openpty()
-        with subprocess.Popen([LINES, os.ttyname(slave)], stdout=subprocess.PIPE, stderr=subprocess.DEVNULL, bufsize=0) as program:
+        call = [LINES, os.ttyname(slave)]
+        with subprocess.Popen(call, stdout=subprocess.PIPE, stderr=subprocess.DEVNULL, bufsize=0) as program:
             os.read(master, 2)
             os.write(master, b"PC201\nR214048490D2000\n")
             self.check("a line", program.stdout.readline()[:20], b"C201 2140 4849 0D20 ")

@@ -80,14 +80,15 @@ class Send(Case):
         wanted = ["5 RT1=Queen - Queen", "133 RTP=4,0,4,0,0,0;1", "133 RTP=4,0,4,1,8,4;1", "400 RTP=0,0,0,1,0,4;1",
                   "400 RTP=0,0,0,0,0,0;1", "420 RT1=DÅ - No", "548 RTP=12,5,1,0,0,0;0"]
         self.check("what it sent", (status, output.splitlines()), (0, wanted))
-        self.check("what the encoder gets", got, b"".join(it.split(" ", 1)[1].encode("latin-1").replace(b"\xc5", b"\xe1") + b"\r\n"
-                                                          for it in wanted))
+        commands = [it.split(" ", 1)[1].replace("Å", "\xE1").encode("latin-1") + b"\r\n" for it in wanted]
+        self.check("what the encoder gets", got, b"".join(commands))
         self.check("no tags without --tags", received(lines)[2].count("RTP"), 0)
 
     def test_a_refused_command_is_seen_and_sent_again(self):
         for answers, status, sent in (([b"+"], 0, 1), ([b"!", b"ok +\r\n"], 0, 2), ([b"!"] * 3, 1, 3)):
             with self.answering(answers) as (place, got):
-                done = subprocess.run([SEND, "--expect", "+", place], input=b'5 text "HI"\n', capture_output=True, timeout=SECONDS)
+                done = subprocess.run([SEND, "--expect", "+", place], input=b'5 text "HI"\n', capture_output=True,
+                                      timeout=SECONDS)
             self.check(f"{answers}", (done.returncode, b"".join(got)), (status, b"RT1=HI\r\n" * sent))
             refused = [it for it in done.stderr.decode().splitlines() if "answered" in it]
             self.check(f"{answers}: what is said", refused,

@@ -175,7 +175,8 @@ class Rows(Case):
         self.check("no UTF-8", rows_of(b"\xff", *trial), (0, "".join(empty), "station: FILE: no UTF-8\n"))
         wanted = "".join(empty[:3]) + row("text", "24 € é", 0) + empty[4]
         self.check("Windows", rows_of(b"24 \x80 \xe9\r\n", *trial, "--encoding", "cp1252"), (0, wanted, ""))
-        self.check("no ASCII", rows_of(b"\xff", *trial, "--encoding", "ascii"), (0, "".join(empty), "station: FILE: no ascii\n"))
+        self.check("no ASCII", rows_of(b"\xff", *trial, "--encoding", "ascii"),
+                   (0, "".join(empty), "station: FILE: no ascii\n"))
         self.check("no text", rows_of(b"\n", *trial), (0, "".join(empty), ""))
         wanted = ["-,,1,\n", row("text", "", 1), "-,,1,\n", row("text", "HI", 1), "-,,1,\n"]
         told = rows_of(b"HI", "--at-once", "--slots", "5", "--m", "1", "--one-in", "1")
@@ -193,8 +194,8 @@ class Rows(Case):
                 ("ABBA - \n", "ABBA -", None), ("\\x8D - b\n", "\\x8D - b", "1 1 4 0 0 1 4 0"),
                 (f"ABBA - {WORDS}York\n", f"ABBA - {WORDS.rstrip()}", "1 1 4 0 3 0 0 0"),
                 ("ABBA\n" + "x" * 40 + "\n", "ABBA - " + "x" * 40, "1 1 1 7 39 4 0 3")):
-            status, rows, _ = rows_of(text.encode(), "--artist-title", "--no-empty-first", "--at-once", "--slots", "4", "--m", "2",
-                                      "--one-in", "1")
+            status, rows, _ = rows_of(text.encode(), "--artist-title", "--no-empty-first", "--at-once", "--slots", "4",
+                                      "--m", "2", "--one-in", "1")
             wanted = [row("-", "", 1)] * 2 + [row("text", sent, 1), row("tags", tags, 1) if tags else row("-", "", 1)]
             self.check(f"{text!r}", (status, rows.splitlines(True)), (0, wanted))
 

@@ -14,7 +14,8 @@ from typing import NamedTuple
 
 ROOT = os.path.dirname(os.path.dirname(os.path.abspath(__file__)))
 MANUAL = "docs/man/rdsrt.1"
-INSTALLED = ("docs/TEST.md", "docs/STATION.md", "docs/RECEIVER.md", "docs/AIR.md", "docs/FORMATS.md", "docs/proof/DEFINITIONS.md")
+INSTALLED = ("docs/TEST.md", "docs/STATION.md", "docs/RECEIVER.md", "docs/AIR.md", "docs/FORMATS.md",
+             "docs/proof/DEFINITIONS.md")
 DOCS = (*INSTALLED, "docs/COMPATIBILITY.md", "docs/TRUST.md", "docs/proof/PROOFS.md", "CHANGELOG.md")
 LINK = re.compile(r"!?\[([^\]]*)\]\(([^)\s#]*)(?:#([^)\s]*))?\)")
 
@@ -68,7 +69,8 @@ LAYOUTS = {
         [(r"\./rdsrt\b", "rdsrt"), (r"(?m)^#   (?:useradd|cp programs/monitor) .*\n", ""),
          (r"rdsrt\s+(?:is\s+)?installed\s+in\s+/opt/rdsrt,\s+(?:and\s+)?", ""), ("/opt/rdsrt/bin/", ""),
          (WORD + r"programs/(\w+\.service)", r"/usr/share/doc/rdsrt/examples/rdsrt-\1"), (WORD + r"programs/(\w)", r"rdsrt-\1"),
-         (WORD + "examples/c/", "/usr/share/doc/librdsrt-dev/examples/"), (WORD + "examples/", "/usr/share/doc/rdsrt/examples/"),
+         (WORD + "examples/c/", "/usr/share/doc/librdsrt-dev/examples/"),
+         (WORD + "examples/", "/usr/share/doc/rdsrt/examples/"),
          (r"(?m)^(?:The examples with a file run in the source folder|Run each command in the top folder)\. ?\n?", "")]),
     "wheel": Layout({"python/README.md": "README.md"}, {}, []),
 }
