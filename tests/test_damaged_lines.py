@@ -1,4 +1,4 @@
-"""Each program in examples/ that reads lines of groups, and the package, over a log whose every third line is damaged.
+"""Each program that reads lines of groups, and the package, over a log whose every third line is damaged.
 
 A damaged line is a lost slot: what came in its slot is unknown, and the slot is over. So a program that goes on shows what
 `decode` shows of the log with `----` in the places of these lines. Another one ends at the first of them, as decode does.
