@@ -246,3 +246,5 @@ class Pages(Case):
         lines = ran(f"{station} | {rest.replace(' --live', '')}").splitlines()
         self.check("its texts", [it.split(" ", 1)[1] for it in lines if " text " in it or it.startswith("receive")],
                    ["found C201, and takes its groups", 'text "Édith Piaf, Milord"'])
+        silence = ran(f"head -c {2 * 171_000} /dev/zero | {rest.replace(' --live', '')}")
+        self.check("without a station nothing is decoded", silence, "")

@@ -179,6 +179,9 @@ class Forms(Case):
             "words beside the blocks that are no time: 1")})
         whole = gzip.compress(("C201 2140 4849 0D20\n" * 9999).encode())
         self.check("a cut file", "lines: the input is cut off" in ran(whole[:-9])[2], True)
+        for damaged in (whole[:40] + b"\xff" * 40 + whole[80:], zipped("C201 2140 4849 0D20\n")[:-9]):
+            status, _, notes = ran(damaged)
+            self.check("a damaged file", (status, notes[-1].startswith("lines: the packed file is damaged: ")), (1, True), notes)
 
     def test_what_is_refused(self):
         for given, told in REFUSED:
