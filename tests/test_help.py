@@ -88,6 +88,27 @@ class Help(ProgramCase):
                 wanted = f"error: invalid value '{value}' for '{option}': {why}{help_}".encode()
                 self.check(f"{name} {value!r}", (done.returncode, done.stdout, done.stderr), (2, wanted, wanted))
 
+    def test_a_refused_argument_is_cut_and_has_escapes(self):
+        """It shows its first 60 bytes. No character of it moves the cursor or turns the text, and standard error has the same."""
+        moving, shown = "\x1b[31m1\n2\x7f\x9b\u202e½", r"\x1B[31m1\x0A2\x7F\xC2\x9B\xE2\x80\xAE½"
+        number, station = "write a whole number of slots from 1 to 65535", ["--pi", "C201"]
+        tip = "\n\n  tip: to pass '{0}' as a value, use '-- {0}'"
+        rows = [(["decode", *station, f"--m={moving}"], f"invalid value '{shown}' for '--m <N>': {number}\n"),
+                (["decode", *station, f"--m={'7' * 100_000}"], f"invalid value '{'7' * 60}' for '--m <N>': {number}\n"),
+                (["decode", *station, f"--m={'½' * 31}"], f"invalid value '{'½' * 30}' for '--m <N>': {number}\n"),
+                ([moving], f"unrecognized subcommand '{shown}'\n"),
+                (["x" * 10_000], f"unrecognized subcommand '{'x' * 60}'\n"),
+                (["decode", *station, f"--{moving}"], f"unexpected argument '--{shown}' found{tip.format('--' + shown)}\n"),
+                (["decode", *station, "one.log", moving], f"unexpected argument '{shown}' found\n"),
+                (["decode", *station, f"--quiet={moving}"],
+                 f"unexpected value '{shown}' for '--quiet' found; no more were expected\n")]
+        for words, begin in rows:
+            done = subprocess.run([PROGRAM, *words], input=HI, capture_output=True, timeout=SECONDS)
+            said = done.stdout.decode()
+            self.check(f"{words}"[:99], (said[:len(begin) + 7], said.endswith("\n\nFor more information, try '--help'.\n")),
+                       (f"error: {begin}", True))
+            self.check(f"{words} on standard error"[:99], (done.returncode, done.stderr.decode()), (2, said))
+
     def test_a_number_below_0_is_no_word_for_a_file(self):
         for words in (["-m", "-1"], ["-k", "-1"], ["--m", "-1"], ["--lose", "-1"]):
             status, text = ran(["witness" if words[0] == "--lose" else "audit", "--pi", "C201", *words], HI)

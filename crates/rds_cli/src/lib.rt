@@ -11,7 +11,7 @@ mod request;
 
 pub use end::End;
 pub use laws::words_of_the_examples;
-pub use refusal::Refusal;
+pub use refusal::{Refusal, Shown};
 pub use request::{
     Programme, Request, Task, group_named, identification_of, read_words, request_in,
 };

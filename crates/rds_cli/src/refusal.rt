@@ -1,31 +1,69 @@
 //! The words of a refusal of the arguments. No contract speaks of them.
 
-use arrayvec::ArrayVec;
 use clap::Error;
 use clap::error::ErrorKind;
 use std::fmt;
-use std::io::Write;
+use std::fmt::Write;
 
-/// The most bytes of a refusal that gets other words than those of `clap`.
-const ROOM: usize = 4096;
+/// The most bytes of an argument that a refusal shows.
+const MOST_SHOWN: usize = 60;
 
 /// How `clap` names the options that take a number, behind the value that was given, and which numbers they take.
 const NUMBERS: [(&str, &str); 5] = [
-    ("' for '--m <N>': ", "of slots from 1 to 65535"),
-    ("' for '--k <N>': ", "of slots from 0 to 1024"),
-    ("' for '--confirm <W>': ", "of slots from 2 to 255"),
-    ("' for '--grain <N>': ", "of milliseconds from 0 to 87"),
-    ("' for '--pty <N>': ", "from 0 to 31"),
+    ("--m <N>': ", "of slots from 1 to 65535"),
+    ("--k <N>': ", "of slots from 0 to 1024"),
+    ("--confirm <W>': ", "of slots from 2 to 255"),
+    ("--grain <N>': ", "of milliseconds from 0 to 87"),
+    ("--pty <N>': ", "from 0 to 31"),
 ];
 
-/// The beginning of the refusal of a word with a hyphen that is no option.
-const UNKNOWN: &str = "error: unexpected argument '-";
+/// The beginning of the usage in a refusal.
+const USAGE: &str = "\n\nUsage: ";
 
-/// The beginning of the tip of `clap` for such a word.
-const TIP: &str = "\n\n  tip: to pass '-";
+/// The first bytes of a text for a terminal: `\xHH` is each byte of a character that moves the cursor or turns the text.
+#[derive(Clone, Copy)]
+pub struct Shown<'a> {
+    text: &'a str,
+    most: usize,
+}
+
+impl Shown<'_> {
+    /// Shows the whole characters in the first `most` bytes of the text.
+    pub fn front(text: &str, most: usize) -> Shown<'_> {
+        Shown { text, most }
+    }
+}
+
+impl fmt::Display for Shown<'_> {
+    fn fmt<W: fmt::Write>(&self, f: &mut fmt::Formatter<W>) -> fmt::Result {
+        let mut room = self.most;
+        for character in self.text.chars() {
+            let Some(left) = room.checked_sub(character.len_utf8()) else {
+                return Ok(());
+            };
+            room = left;
+            fmt_character(character, f)?;
+        }
+        Ok(())
+    }
+}
+
+/// Writes a character, or its bytes.
+fn fmt_character<W: fmt::Write>(character: char, f: &mut fmt::Formatter<W>) -> fmt::Result {
+    let moves = character.is_control()
+        || matches!(character, '\u{200E}' | '\u{200F}' | '\u{2028}'..='\u{202E}' | '\u{2066}'..='\u{2069}');
+    if !moves {
+        return write!(f, "{character}");
+    }
+    let mut bytes = [0; 4];
+    for byte in character.encode_utf8(&mut bytes).bytes() {
+        write!(f, "\\x{byte:02X}")?;
+    }
+    Ok(())
+}
 
 /// The text of `clap` for arguments that are no request: help, or why they are refused. It says which numbers an option
-/// takes, and that none takes a number below 0.
+/// takes, and that none takes a number below 0. Of a refused argument it has the first bytes, for a terminal.
 #[derive(Clone, Copy)]
 pub struct Refusal<'a> {
     error: &'a Error,
@@ -40,47 +78,91 @@ impl Refusal<'_> {
 
 impl fmt::Display for Refusal<'_> {
     fn fmt<W: fmt::Write>(&self, f: &mut fmt::Formatter<W>) -> fmt::Result {
-        let kind = self.error.kind();
-        if kind != ErrorKind::ValueValidation && kind != ErrorKind::UnknownArgument {
-            return write!(f, "{}", self.error);
-        }
-        let mut bytes = ArrayVec::<u8, ROOM>::new();
-        let is_whole = write!(bytes, "{}", self.error).is_ok();
-        match str::from_utf8(bytes.as_slice()) {
-            Ok(text) if is_whole && kind == ErrorKind::ValueValidation => fmt_number(text, f),
-            Ok(text) if is_whole => fmt_unknown(text, f),
-            Ok(_) | Err(_) => write!(f, "{}", self.error),
+        match end_of_argument(self.error.kind()) {
+            Some(end) => write!(Words { end, inner: f }, "{}", self.error),
+            None => write!(f, "{}", self.error),
         }
     }
 }
 
-/// Writes the refusal of a value, with the numbers that its option takes.
-fn fmt_number<W: fmt::Write>(text: &str, f: &mut fmt::Formatter<W>) -> fmt::Result {
+/// Returns what `clap` writes behind the refused argument. `None` if a refusal of this kind has none.
+fn end_of_argument(kind: ErrorKind) -> Option<&'static str> {
+    match kind {
+        ErrorKind::InvalidValue | ErrorKind::ValueValidation | ErrorKind::TooManyValues => {
+            Some("' for '")
+        }
+        ErrorKind::UnknownArgument => Some("' found"),
+        ErrorKind::InvalidSubcommand => Some("'\n"),
+        _ => None,
+    }
+}
+
+/// Writes a refusal that `clap` writes as a whole.
+#[derive(Drop)]
+struct Words<'a, W> {
+    /// What is behind the argument.
+    end: &'static str,
+    inner: &'a mut fmt::Formatter<W>,
+}
+
+impl<W: fmt::Write> fmt::Write for Words<'_, W> {
+    fn write_str(&mut self, text: &str) -> fmt::Result {
+        if let Some((begin, quoted)) = text.split_once("'")
+            && let Some((argument, rest)) = quoted.split_once(self.end)
+        {
+            let shown = Shown::front(argument, MOST_SHOWN);
+            write!(self.inner, "{begin}'{shown}{}", self.end)?;
+            return fmt_reason(argument, rest, self.inner);
+        }
+        fmt_lines(text, self.inner)
+    }
+}
+
+/// Writes why an argument was refused: which numbers its option takes, or the words of `clap`, which may name it again.
+fn fmt_reason<W: fmt::Write>(argument: &str, rest: &str, f: &mut fmt::Formatter<W>) -> fmt::Result {
     for (option, numbers) in NUMBERS {
-        if let Some((value, _)) = text.split_once(option) {
+        if rest.starts_with(option) {
             return write!(
                 f,
-                "{value}{option}write a whole number {numbers}\n\nFor more information, try '--help'.\n"
+                "{option}write a whole number {numbers}\n\nFor more information, try '--help'.\n"
             );
         }
     }
-    f.write_str(text)
-}
-
-/// Writes the refusal of a word that is no option. If it is a number below 0, it was meant for the option before it.
-fn fmt_unknown<W: fmt::Write>(text: &str, f: &mut fmt::Formatter<W>) -> fmt::Result {
-    let digit = match text.strip_prefix(UNKNOWN) {
-        Some(rest) => rest.bytes().next(),
-        None => None,
-    };
-    if let Some(b'0'..=b'9') = digit
-        && let Some((begin, tip)) = text.split_once(TIP)
-        && let Some((_, usage)) = tip.split_once("\n\n")
+    if is_below_zero(argument)
+        && let Some((_, usage)) = rest.rsplit_once(USAGE)
     {
         return write!(
             f,
-            "{begin}: no option takes a number below 0, write for example -m 128\n\n{usage}"
+            ": no option takes a number below 0, write for example -m 128{USAGE}{usage}"
         );
     }
-    f.write_str(text)
+    if argument.is_empty() {
+        return fmt_lines(rest, f);
+    }
+    for (place, part) in rest.split(argument).enumerate() {
+        if place > 0 {
+            write!(f, "{}", Shown::front(argument, MOST_SHOWN))?;
+        }
+        fmt_lines(part, f)?;
+    }
+    Ok(())
+}
+
+/// Returns whether an argument with a hyphen is a number, which was meant for the option before it.
+fn is_below_zero(argument: &str) -> bool {
+    match argument.strip_prefix("-") {
+        Some(number) => matches!(number.bytes().next(), Some(b'0'..=b'9')),
+        None => false,
+    }
+}
+
+/// Writes lines for a terminal.
+fn fmt_lines<W: fmt::Write>(text: &str, f: &mut fmt::Formatter<W>) -> fmt::Result {
+    for (place, line) in text.split("\n").enumerate() {
+        if place > 0 {
+            f.write_str("\n")?;
+        }
+        write!(f, "{}", Shown::front(line, line.len()))?;
+    }
+    Ok(())
 }

@@ -7,7 +7,7 @@ use crate::note::{
 use crate::row_lines::push_row_cause;
 use crate::spans::push_spans;
 use arrayvec::ArrayVec;
-use rds_cli::{Request, Task};
+use rds_cli::{Request, Shown, Task};
 use rds_encoder::Refusal;
 use rds_io::LogFault;
 use rds_lines::{BadStart, BreakPlace, Lack, comment_of};
@@ -517,33 +517,9 @@ pub(crate) fn push_shown(bytes: &[u8], line: &mut Line) {
     let _ = write!(line, "\"");
 }
 
-/// Appends the first characters of the name of a file between quotation marks, with `\xHH` for each byte of one that moves
-/// the cursor or turns the text.
+/// Appends the first characters of the name of a file between quotation marks.
 fn push_name(name: &str, line: &mut Line) {
-    let _ = write!(line, "\"");
-    let mut room = FILE_ROOM;
-    for character in name.chars() {
-        let Some(left) = room.checked_sub(character.len_utf8()) else {
-            break;
-        };
-        room = left;
-        push_character(character, line);
-    }
-    let _ = write!(line, "\"");
-}
-
-/// Appends a character of the name of a file.
-fn push_character(character: char, line: &mut Line) {
-    let moves = character.is_control()
-        || matches!(character, '\u{200E}' | '\u{200F}' | '\u{2028}'..='\u{202E}' | '\u{2066}'..='\u{2069}');
-    if !moves {
-        let _ = write!(line, "{character}");
-        return;
-    }
-    let mut bytes = [0; 4];
-    for byte in character.encode_utf8(&mut bytes).bytes() {
-        let _ = write!(line, "\\x{byte:02X}");
-    }
+    let _ = write!(line, "\"{}\"", Shown::front(name, FILE_ROOM));
 }
 
 /// Returns whether the command reads a script instead of a log.
