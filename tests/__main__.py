@@ -17,6 +17,7 @@ import argparse
 import collections
 import itertools
 import json
+import math
 import os
 import signal
 import subprocess
@@ -158,13 +159,11 @@ def run_classes(classes, count, folder, steps):
 
 def turns(classes, cores):
     """Returns the classes that run in each turn, with how many of them run at a time: first those that may run beside any
-    others, and last those that run alone. Below four cores a browser runs alone."""
+    others, which build what the later ones test, and last those that run alone."""
     found = {}
     for its in classes:
-        most = getattr(its[0], "most", None)
-        count = cores if most is None else min(most, max(cores // 2, 1))
-        found.setdefault(count, []).append(its)
-    return sorted(found.items(), reverse=True, key=lambda it: it[0])
+        found.setdefault(getattr(its[0], "most", None) or math.inf, []).append(its)
+    return [(min(most, cores), its) for most, its in sorted(found.items(), reverse=True)]
 
 
 def why_skipped(reasons):

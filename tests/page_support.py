@@ -226,8 +226,8 @@ def why_no_page():
 class PageCase(Case):
     """A test of the page in one browser: `b` drives it."""
 
-    # a browser has several processes and takes two cores or more
-    most = 2
+    # a browser waits for half of the time, and takes up to 1 GB
+    most = 4
     # whether the console must stay empty, and nothing may be fetched
     is_quiet = True
     driver, name = None, None

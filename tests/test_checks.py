@@ -76,7 +76,6 @@ class Checks(Case):
     def test_classes_that_may_not_run_together_have_turns(self):
         many, pair, lone = (type("Some", (), {"most": most})() for most in (None, 2, 1))
         classes = [[pair], [many], [lone], [many, many]]
-        on_four = [(4, [[many], [many, many]]), (2, [[pair]]), (1, [[lone]])]
-        self.check("on four cores", runner.turns(classes, 4), on_four)
-        self.check("on two", runner.turns(classes, 2), [(2, [[many], [many, many]]), (1, [[pair], [lone]])])
-        self.check("on one", runner.turns(classes, 1), [(1, classes)])
+        for cores, counts in ((4, (4, 2, 1)), (2, (2, 2, 1)), (1, (1, 1, 1))):
+            wanted = [*zip(counts, ([[many], [many, many]], [[pair]], [[lone]]))]
+            self.check(f"on {cores} cores", runner.turns(classes, cores), wanted)
