@@ -5,15 +5,12 @@ The items that are expected are those of the table in docs/TEST.md. The stations
 made: a text for more than M + K slots, a flip with each, tags M + K slots after its first group.
 """
 import argparse
-import contextlib
 import gzip
-import io
 import json
 import os
 import random
 import re
 import subprocess
-import sys
 
 from tests.support import Case, found_program, path, script, temporary_folder, text_of
 from tests.slot import SLOT
@@ -43,7 +40,7 @@ def judged(given, *words):
     return {**json.loads(printed or "{}"), "status": status, "notes": notes}
 
 
-def timed(log, step=SLOT):
+def timed(log):
     return "".join(with_times(log))
 
 
