@@ -32,7 +32,9 @@ STAGED = {"bin/rdsrt", "include/rdsrt.h", "lib/librdsrt.a", "lib/librdsrt.so", f
           *PROGRAMS_IN_BIN, *PACKAGE, *(f"share/doc/rdsrt/{it}" for it in (
               "AIR.md", "DEFINITIONS.md", "FORMATS.md", "TEST.md", "STATION.md", "RECEIVER.md", *EXAMPLES)),
           "share/bash-completion/completions/rdsrt", "share/zsh/site-functions/_rdsrt",
-          "share/fish/vendor_completions.d/rdsrt.fish"}
+          "share/fish/vendor_completions.d/rdsrt.fish",
+          *(f"share/{it}" for name in PROGRAMS_IN_BIN for it in (f"bash-completion/completions/{name[4:]}",
+                                                                f"fish/vendor_completions.d/{name[4:]}.fish"))}
 # a project that finds the library by CMake
 PROJECT = """cmake_minimum_required(VERSION 3.13)
 project(trial C)

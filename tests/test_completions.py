@@ -5,6 +5,7 @@ import shutil
 import subprocess
 import tempfile
 
+from tests import package
 from tests.needed import needs
 from tests.support import PROGRAM, SECONDS, Case, path, text_of
 
@@ -108,6 +109,22 @@ class Completions(Case):
             self.check(f"fish after {command}", "it.log" in by_fish([command], ["it.log"]), True)
             zsh = re.search(rf"^ +{command}\) _arguments .*\$file ;;$", text_of("tools/completions/_rdsrt"), re.M)
             self.check(f"zsh after {command}", bool(zsh), True)
+
+    @needs("bash", "fish", "zsh")
+    def test_the_programs_around_it_have_the_options_of_their_help(self):
+        """zsh reads them itself."""
+        paths = {**os.environ, "PATH": package.installed_programs() + os.pathsep + os.environ["PATH"]}
+        for name in package.NAMES:
+            program = f"rdsrt-{name}"
+            printed = subprocess.run([program, "--help"], stdout=subprocess.PIPE, text=True, env=paths).stdout
+            wanted = {*re.findall(r"^ +(?:-\w, )?(--[a-z][a-z-]*)", printed, re.M)}
+            bash = f"source {FOLDER}/rdsrt.bash; _rdsrt_program {program} --; printf '%s\\n' \"${{COMPREPLY[@]}}\"; complete -p {program}"
+            fish = f"source {FOLDER}/rdsrt.fish; complete -C '{program} --'"
+            for shell, words in (("bash", ["bash", "-c", bash]), ("fish", ["fish", "--no-config", "-c", fish])):
+                found = subprocess.run(words, stdout=subprocess.PIPE, text=True, env=paths, timeout=SECONDS).stdout
+                lacking = wanted - {it.split("\t")[0] for it in found.splitlines()}
+                self.check(f"{shell} after {program}", (lacking, wanted != set()), (set(), True), found)
+            self.check(f"zsh knows {program}", program in text_of("tools/completions/_rdsrt").splitlines()[0].split(), True)
 
     def test_zsh_and_fish_describe_each_command(self):
         self.describe("zsh")

@@ -25,3 +25,12 @@ _rdsrt() {
     mapfile -t COMPREPLY < <(compgen -W "$offered" -- "$word")
 }
 complete -o default -F _rdsrt rdsrt
+
+# the programs around it: the options that their help has
+_rdsrt_program() {
+    COMPREPLY=()
+    case $2 in
+        -*) mapfile -t COMPREPLY < <(compgen -W "$("$1" --help 2>/dev/null | grep -oE -- '--[a-z][a-z-]*')" -- "$2") ;;
+    esac
+}
+complete -o default -F _rdsrt_program rdsrt-json rdsrt-letter rdsrt-lines rdsrt-monitor rdsrt-receive rdsrt-send rdsrt-station rdsrt-transmit rdsrt-v4l2

@@ -31,3 +31,7 @@ complete -c rdsrt -n "$no_help encode sim" -l pty -x -d 'Programme type (PTY) in
 complete -c rdsrt -n "$no_help encode sim" -l tp -d 'Sets the TP flag in each group'
 complete -c rdsrt -n "$no_help decode audit witness slots encode sim" -l quiet -d 'Prints no warnings on standard error'
 complete -c rdsrt -n "$no_help decode audit witness slots encode sim" -l json-notes -d 'Prints each note on standard error as a JSON object'
+# the programs around it: the options that their help has
+for name in json letter lines monitor receive send station transmit v4l2
+    complete -c rdsrt-$name -n "string match -q -- '-*' (commandline -ct)" -a "(rdsrt-$name --help | string match -ar -- '--[a-z][a-z-]*')"
+end
