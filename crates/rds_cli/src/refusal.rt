@@ -9,10 +9,11 @@ use std::fmt::Write;
 const MOST_SHOWN: usize = 60;
 
 /// How `clap` names the options that take a number, behind the value that was given, and which numbers they take.
-const NUMBERS: [(&str, &str); 5] = [
+const NUMBERS: [(&str, &str); 6] = [
     ("--m <N>': ", "of slots from 1 to 65535"),
     ("--k <N>': ", "of slots from 0 to 1024"),
     ("--confirm <W>': ", "of slots from 2 to 255"),
+    ("--keep <N>': ", "of slots from 0 to 65535"),
     ("--grain <N>': ", "of milliseconds from 0 to 87"),
     ("--pty <N>': ", "from 0 to 31"),
 ];
