@@ -21,11 +21,7 @@ use rds_safety::{often_is_enough, safe_by_plans, safe_by_the_flag, safe_if_confi
 
 /// States that the messages of an encoder are lawful for its plans, whatever it sets in its slots, and that each pair of
 /// tags that it sends is of a text of its plan.
-#[tactic(auto, using(
-    std::proofs::lemmas::Bool::Decides::nat_tests,
-    crate::proofs::LawfulStation::lawful_station,
-    crate::proofs::LawfulStation::each_pair,
-))]
+#[tactic(auto, using(std::proofs::lemmas::Bool::Decides::nat_tests, crate::proofs::LawfulStation::lawful_station, crate::proofs::LawfulStation::each_pair,))]
 pub fn the_encoder_is_lawful()
     ensures lawful { TheEncoderIsLawful }
     ensures pairs { EachPairHasItsBroadcast }
