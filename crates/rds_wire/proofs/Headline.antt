@@ -41,7 +41,7 @@ use Rattle.rds_fields.specs.TagGroup.{MayCarryTags}
 use Rattle.rds_lines.specs.LogSlots.{IsLogOf}
 use Rattle.rds_receiver.specs.declared.why.WhyNone.{WhyNone}
 use Rattle.rds_wire.proofs.Wired.{entry_at, rows_name_none}
-use Rattle.rds_wire.proofs.Reading.{shows_some, all_lines, are_lines, changes_text, lines_of}
+use Rattle.rds_wire.proofs.Reading.{HasNewest, contains_from_in, in_from_contains, shows_some, all_lines, are_lines, changes_text, lines_of}
 use Rattle.rds_safety.specs.Late.{HasEntry}
 use Rattle.rds_wire.proofs.Reached.{get_of_entry, lines_are, reaches_is_received, slots_long}
 use Rattle.rds_wire.proofs.Logs.{empty_line, encoded_cut, groups_sent, is_log_of}
@@ -104,6 +104,17 @@ displays_shows displays output is t part content d = inl record {
   past = d.past;
   line = of_output displays output is d.slot part content d.line;
   newest = λ u other later upto has. d.newest u other later upto (in_output displays output is u part other has);
+}
+
+-- the newest line of a part is what the output displays
+pub newest_displays : (displays : List Display) (output : List ℕ) → output ≡ changes_of displays → (t : ℕ) (part : Part)
+    (content : List ℕ) → HasNewest displays part content t → Displays output t (part_name part) content
+newest_displays displays output is t part content (s, past, line, none) = record {
+  slot = s;
+  past = past;
+  line = in_output displays output is s part content (contains_from_in (line_in s part content) (lines_of displays) line);
+  newest = λ v other after upto has. none v other after upto
+      (in_from_contains (line_in v part other) (lines_of displays) (of_output displays output is v part other has));
 }
 
 -- what stands between quotation marks is not nothing
@@ -427,17 +438,26 @@ module _ (d t : ℕ) (script : List ℕ) (config : world.Config) (n : ℕ) (its 
       shown : (0 < (its_tag two w.pair).class) × (content ≡ tag_shown b.bytes (its_tag two w.pair))
       shown = cut_shows (its_tag two w.pair) b.bytes content cut some
 
-  -- a tag that a receiver shows went with the text that it shows
-  tag_is_safe : (Shown : Part → List ℕ → Type 0) (k : ℕ) → wire.ShowsText d t (aired d events) Shown k
-      → ((part : Part) → (c : List ℕ) × Shown part c) → (two : Bool) (text content : List ℕ) → Shown Text (in_quotes text)
+  -- a tag that a receiver displays went with the text that it displays
+  tag_is_safe : (Shown : Part → List ℕ → Type 0) (Displayed : List ℕ → Type 0) (k : ℕ)
+      → wire.ShowsText d t (aired d events) Shown k → (all : (part : Part) → (c : List ℕ) × Shown part c)
+      → Displayed (all Text).0 ⊎ ((all Text).0 ≡ codes " none") → (two : Bool) (content : List ℕ)
       → Shown (tag_part two) content → content ≢ codes " none"
-      → (k : ℕ) × WasOnAir (codes "text") d d t script text k × WentWith (tag_word two) d t script text content k
-  tag_is_safe Shown k s all two text content has tag some =
+      → (text : List ℕ) × (k : ℕ) × Displayed (in_quotes text) × WasOnAir (codes "text") d d t script text k
+      × WentWith (tag_word two) d t script text content k
+  tag_is_safe Shown Displayed k s all has two content tag some =
       let contents : Part → List ℕ = with_tag two content (λ p. (all p).0) in
       let same = with_same two content (λ p. (all p).0) in
-      elim (s.tags (in_quotes text) contents has (with_shown Shown two content tag all)) [
+      elim (s.tags (all Text).0 contents (all Text).1 (with_shown Shown two content tag all)) [
         | inl none ↦ absurd (some (sym same ∙ none (tag_part two) (of_pair two)))
-        | inr w ↦ (let it = went_with two text content k contents same some w in (k + 1, it.0, it.1))
+        | inr w ↦
+            let text : List ℕ = printed w.on_air.broadcast.bytes in
+            let it = went_with two text content k contents same some
+            (subst (λ x. wire.WentWith d t (aired d events) x contents k) w.on_air.says w) in
+            elim has [
+              | inl shown ↦ (text, k + 1, subst Displayed w.on_air.says shown, it.0, it.1)
+              | inr none ↦ absurd (not_nothing text (None, sym w.on_air.says ∙ none))
+            ]
       ]
 
 -- ---- the headline
@@ -517,6 +537,7 @@ headline safe head m k script log is_head some writes one other t below under = 
 
     -- the receiver shows something of each part
     all : (part : Part) → (c : List ℕ) × Shows one.output t part c
+        × (HasNewest one.decodes.write.write.displays part c t ⊎ (c ≡ codes " none"))
     all part =
         let displays = one.decodes.write.write.displays in
         let long = displays_long 0 false (tuning_of (plain head.pi m)) one.decodes.write.slots displays
@@ -527,16 +548,24 @@ headline safe head m k script log is_head some writes one other t below under = 
         let at = entry_at displays t (omega (arith, below, same, long)) in
         shows_some displays one.output one.decodes.write.write.changes part t at.0 at.1 (omega (arith, few, same, long))
 
-    tags : (word text content : List ℕ) → (word ≡ codes "tag1") ⊎ (word ≡ codes "tag2")
-        → Displays one.output t (codes "text") (in_quotes text) → Displays one.output t word content
-        → content ≢ codes " none" → (k' : ℕ) × WasOnAir (codes "text") (m + k) (m + k) t script text k'
-        × WentWith word (m + k) t script text content k'
-    tags word text content is has tag full =
+    -- the text of the display
+    its_text : Displays one.output t (codes "text") (all Text).0 ⊎ ((all Text).0 ≡ codes " none")
+    its_text = elim (all Text).2 [
+      | inl newest ↦
+          inl (newest_displays one.decodes.write.write.displays one.output one.decodes.write.write.changes t Text
+          (all Text).0 newest)
+      | inr none ↦ inr none
+    ]
+
+    tags : (word content : List ℕ) → (word ≡ codes "tag1") ⊎ (word ≡ codes "tag2") → Displays one.output t word content
+        → content ≢ codes " none" → (text : List ℕ) × (k' : ℕ) × Displays one.output t (codes "text") (in_quotes text)
+        × WasOnAir (codes "text") (m + k) (m + k) t script text k' × WentWith word (m + k) t script text content k'
+    tags word content is tag full =
         let two = (which_tag word is).0 in
         let e = (which_tag word is).1 in
-        subst (λ w. (k' : ℕ) × WasOnAir (codes "text") (m + k) (m + k) t script text k'
-        × WentWith w (m + k) t script text content k') e
+        subst (λ w. (text : List ℕ) × (k' : ℕ) × Displays one.output t (codes "text") (in_quotes text)
+        × WasOnAir (codes "text") (m + k) (m + k) t script text k' × WentWith w (m + k) t script text content k') e
         (tag_is_safe (m + k) t script (station_of head m k) writes.write.say.receivers writes.records writes.write.events
-        rows_say writes.are few (Shows one.output t) safe_so.texts.k safe_so.texts.first all two text content
-        (shows one Text (in_quotes text) has)
+        rows_say writes.are few (Shows one.output t) (Displays one.output t (codes "text")) safe_so.texts.k
+        safe_so.texts.first (λ part. ((all part).0, (all part).1)) its_text two content
         (shows one (tag_part two) content (subst (λ w. Displays one.output t w content) (sym e ∙ tag_name two) tag)) full)

@@ -135,7 +135,7 @@ is_ended = refl
 is_other : (air (codes "name") 2 (says (codes "text") (codes "A") ∷ free ∷ free ∷ [])).set ≡ None
 is_other = refl
 
-is_filled : filled (codes "name") (codes "R1") ≡ codes "R1      "
+is_filled : filled (codes "name") (codes "FM") ≡ codes "FM      "
 is_filled = refl
 
 -- ---- a script with d = 1: HI from slot 1, its tags from slot 2, and a restart in slot 3
@@ -321,19 +321,17 @@ is_mix safe =
 abbrev pub early : List ℕ
 early = codes "1 text \"HI\"\n1 tag1 ITEM.TITLE \"HI\"\n"
 
-pub early_lines : Contains (lines early) (change_line 1 (codes "text") (codes " \"HI\""))
-    × Contains (lines early) (change_line 1 (codes "tag1") (codes " ITEM.TITLE \"HI\""))
+pub early_line : Contains (lines early) (change_line 1 (codes "tag1") (codes " ITEM.TITLE \"HI\""))
 unfolding digits
-early_lines = ((0, omega arith, refl), (1, omega arith, refl))
+early_line = (1, omega arith, refl)
 
 -- tags less than d slots after the start of their text
 is_early : IsSafe 1 1 script early early → ⊥
 is_early safe =
     let content : List ℕ = codes " ITEM.TITLE \"HI\"" in
     let full : content ≢ codes " none" = λ e. (let bad : 73 ≡ 110 = ap (λ (l : List ℕ). get_or l 1 0) e in omega (arith, bad)) in
-    let it = safe.tags (codes "tag1") (codes "HI") content (inl refl)
-    (shown_in 1 early (codes "text") (codes " \"HI\"") early_lines.0) (shown_in 1 early (codes "tag1") content early_lines.1) full in
-    tags_too_early it.0 (codes "HI") content it.2
+    let it = safe.tags (codes "tag1") content (inl refl) (shown_in 1 early (codes "tag1") content early_line) full in
+    tags_too_early it.1 it.0 content it.4
 
 -- the headline says so of whatever reaches two receivers
 says_so : Headline → (head : Head) (m k t : ℕ) (script log received other output other_output : List ℕ) → IsHead head

@@ -2,6 +2,7 @@
 use Rattle.std.proofs.Common.{◌≡◌, ◌≢◌, ◌⊎◌, ◌<◌, ◌≤◌, ◌+◌, ◌-◌, ◌^◌, ◌++◌, ◌∷◌, ◌∙◌, [], ℕ, suc, Bool, List, Option, None}
 use Rattle.std.proofs.Common.{Some, ap, arith, drop, inl, inr, length, map, refl, subst, sym}
 use Rattle.std.proofs.lemmas.List.{drop-drop, drop-map, length-append}
+use Rattle.std.proofs.lemmas.Option.{same_Some}
 use Rattle.std.specs.Prelude.{codes}
 use lib.ListN.{length-map}
 use Rattle.rds_block.specs.declared.group.Group.{Group}
@@ -22,15 +23,15 @@ use Rattle.rds_receiver.specs.Receipts.{Tuning, heard_in, heard_of}
 use Rattle.rds_receiver.specs.Shown.{IsView, ShownView}
 use Rattle.rds_receiver.specs.declared.why.Whys.{Whys}
 use Rattle.rds_safety.specs.Late.{HasEntry}
-use Rattle.rds_view_lines.specs.Output.{Display, changes_of, none_content, quoted, text_content, why_name, why_text}
+use Rattle.rds_view_lines.specs.Output.{Display, changes_of, none_content, quoted, tag_content, text_content, why_name, why_text}
 use Rattle.rds_view_lines.specs.ViewParts.{Name, Part, Tag1, Tag2, Text, part_content, part_name}
 use Rattle.rds_wire.specs.Headline.{Displays, Headline, IsSafe, Reaches, Receiver, WasOnAir, WentWith, in_quotes, slots}
 use Rattle.rds_wire.specs.Kept.{IsRecent, NothingNewIsKept, WasDisplayed, WhatIsKeptWasDisplayed, WhatIsKeptWasOnAir}
 use Rattle.rds_wire.specs.Kept.{keeping}
 use Rattle.rds_wire.specs.NothingNew.{NothingNew, decoding}
 use Rattle.rds_wire.specs.Received.{first_entries}
-use Rattle.rds_wire.proofs.Headline.{displays_shows, not_nothing}
-use Rattle.rds_wire.proofs.NothingNew.{displays_newest, has_value, heard_first}
+use Rattle.rds_wire.proofs.Headline.{displays_shows, newest_displays, not_nothing}
+use Rattle.rds_wire.proofs.NothingNew.{has_value, heard_first}
 use Rattle.rds_wire.proofs.Reached.{slots_long}
 use Rattle.rds_wire.proofs.Reading.{IsContentOf, newest_line}
 use Rattle.rds_wire.proofs.Receiving.{display_in, displays_long, first_length, view_in}
@@ -138,6 +139,31 @@ whole_view s view e = by s.view.text refl e
     by None is e = absurd (grind (arith))
     by (Some x) is e = grind (arith)
 
+-- who shows a text shows its bytes
+shows_a_text : (s : Showing) (view : ShownView) → (text_moment s).shown ≡ Some view
+    → (x : List ℕ) × (view.text ≡ Some x)
+shows_a_text s view e = by s.view.text refl e
+  where
+    by : (text : Option (List ℕ)) → s.view.text ≡ text → (text_moment s).shown ≡ Some view
+        → (x : List ℕ) × (view.text ≡ Some x)
+    by None is e = absurd (grind (arith))
+    by (Some x) is e = (x, grind (arith))
+
+-- a display shows a text, or no tags
+text_or_no_tags : (n : ℕ) (showings : List Showing) → ((x : List ℕ) × ((displayed n showings).text ≡ Some x))
+    ⊎ (((displayed n showings).one ≡ None) × ((displayed n showings).two ≡ None))
+text_or_no_tags n showings = by (kept n (map text_moment showings)) refl
+  where
+    by : (o : Option ShownView) → kept n (map text_moment showings) ≡ o
+        → ((x : List ℕ) × ((displayed n showings).text ≡ Some x))
+        ⊎ (((displayed n showings).one ≡ None) × ((displayed n showings).two ≡ None))
+    by None e = inr (grind (arith), grind (arith))
+    by (Some view) e =
+        let was = kept_was_shown n (map text_moment showings) view e in
+        let cut = cut_map text_moment showings was.since was.moment was.before was.all in
+        let text = shows_a_text cut.1 view (ap (λ m. m.shown) cut.5 ∙ was.shows) in
+        inl (text.0, grind (arith))
+
 -- ---- the output of the same log without `--keep`
 
 module _ (how : Decoding) (received output unkept : List ℕ) (few : length (slots received) < 2 ^ 64)
@@ -182,7 +208,7 @@ module _ (how : Decoding) (received output unkept : List ℕ) (few : length (slo
       let one : at_u.0.view ≡ view =
       same_view tuning (first_entries (u + 1) r.write.slots) at_u.0.view view
       (subst (λ l. IsView tuning (first_entries (u + 1) l) at_u.0.view) same seen_u) seen in
-      displays_newest w.write.write.displays unkept w.write.write.changes part given u
+      newest_displays w.write.write.displays unkept w.write.write.changes u part given
       (newest_line w.write.write.displays part given u at_u.0 at_u.1 (omega (arith, few, long, w_long, ap length same))
       (λ whys. ap (part_content part whys) one ∙ has whys) some)
 
@@ -192,19 +218,17 @@ module _ (how : Decoding) (received output unkept : List ℕ) (few : length (slo
       × (at_t.0.view ≡ record was { name = at_t.0.view.name }) × (u : ℕ) × (u ≤ t) × (t ≤ u + how.keep)
       × IsView tuning (first_entries (u + 1) r.write.slots) was
 
-  was_text : (shown : List ℕ) → Displays output t (codes "text") (in_quotes shown) → WasText shown
-  was_text shown d =
-      let c = content Text (in_quotes shown) d in
-      let val = has_value (why_text c.0) at_t.0.view.text shown c.1 in
+  was_of : (shown x : List ℕ) → at_t.0.view.text ≡ Some x → shown ≡ printed x → WasText shown
+  was_of shown x has printed_is =
       let shows = is.view.shows in
-      let k = text_kept how.keep is.view.showings val.0 (sym (ap (λ v. v.text) shows) ∙ val.1) in
+      let k = text_kept how.keep is.view.showings x (sym (ap (λ v. v.text) shows) ∙ has) in
       let s = shown_in how.keep t tuning r.write.slots text_moment k.0 is.view.showings (omega (arith, below, long))
       is.view.are k.1 in
       let was = whole_view s.end k.0 s.shows in
       let here : at_t.0.view ≡ record k.0 { name = at_t.0.view.name } =
       shows ∙ k.3 ∙ ap (λ name. record k.0 { name = name }) (sym (ap (λ v. v.name) (shows ∙ k.3))) in (
-        val.0,
-        val.2,
+        x,
+        printed_is,
         k.0,
         k.2,
         here,
@@ -213,6 +237,11 @@ module _ (how : Decoding) (received output unkept : List ℕ) (few : length (slo
         s.recent,
         subst (IsView tuning (first_entries (s.slot + 1) r.write.slots)) was s.view,
       )
+
+  was_text : (shown : List ℕ) → Displays output t (codes "text") (in_quotes shown) → WasText shown
+  was_text shown d =
+      let c = content Text (in_quotes shown) d in
+      let val = has_value (why_text c.0) at_t.0.view.text shown c.1 in was_of shown val.0 val.1 val.2
 
   text : (shown : List ℕ) (was : WasText shown) → Displays unkept was.5 (codes "text") (in_quotes shown)
   text shown (bytes, printed_is, view, is_text, here, u, past, recent, seen) =
@@ -247,6 +276,49 @@ module _ (how : Decoding) (received output unkept : List ℕ) (few : length (slo
       displayed_in u past view seen part given
       (λ whys. sym (c.1 ∙ ap (part_content part c.0) here ∙ stays c.0 whys view at_t.0.view.name)) some
 
+  -- a tag has a text beside it
+  its_text : (part : Part)
+      → ((whys : Option Whys) (view : ShownView) → view.one ≡ None → view.two ≡ None
+      → part_content part whys view ≡ codes " none")
+      → (given : List ℕ) → Displays output t (part_name part) given → given ≢ codes " none"
+      → (x : List ℕ) × (at_t.0.view.text ≡ Some x)
+  its_text part none given d some =
+      let c = content part given d in
+      let shows = is.view.shows in
+      elim (text_or_no_tags how.keep is.view.showings) [
+        | inl (x, e) ↦ (x, ap (λ v. v.text) shows ∙ e)
+        | inr (one, two) ↦
+            absurd (some (c.1
+            ∙ none c.0 at_t.0.view (ap (λ v. v.one) shows ∙ one) (ap (λ v. v.two) shows ∙ two)))
+      ]
+
+  -- the output displays it
+  displays_text : (x : List ℕ) → at_t.0.view.text ≡ Some x → Displays output t (codes "text") (in_quotes (printed x))
+  displays_text x e =
+      newest_displays r.write.write.displays output r.write.write.changes t Text (quoted x)
+      (newest_line r.write.write.displays Text (quoted x) t at_t.0 at_t.1 (omega (arith, few, long, r_long))
+      (λ whys. ap (text_content (why_text whys)) e) (λ n. not_nothing (printed x) (None, n)))
+
+  with_its_text : (part : Part)
+      → ((whys : Option Whys) (view : ShownView) → view.one ≡ None → view.two ≡ None
+      → part_content part whys view ≡ codes " none")
+      → ((whys other : Option Whys) (view : ShownView) (name : Option (List ℕ))
+      → part_content part whys (record view { name = name }) ≡ part_content part other view)
+      → (given : List ℕ) → Displays output t (part_name part) given → given ≢ codes " none"
+      → (text : List ℕ) × (u : ℕ) × (u ≤ t) × (t ≤ u + how.keep) × Displays output t (codes "text") (in_quotes text)
+      × Displays unkept u (codes "text") (in_quotes text) × Displays unkept u (part_name part) given
+  with_its_text part none stays given d some =
+      let x = its_text part none given d some in
+      let was = was_of (printed x.0) x.0 x.1 refl in (
+        printed x.0,
+        was.5,
+        was.6,
+        was.7,
+        displays_text x.0 x.1,
+        text (printed x.0) was,
+        tag part stays (printed x.0) given was d some,
+      )
+
   was_displayed : WasDisplayed how.keep t output unkept
   was_displayed = record { values = values; tags = tags }
     where
@@ -264,28 +336,30 @@ module _ (how : Decoding) (received output unkept : List ℕ) (few : length (slo
           let it = name shown (subst (λ it. Displays output t it (in_quotes shown)) e d) in
           (it.0, it.1, it.2, subst (λ w. Displays unkept it.0 w (in_quotes shown)) (sym e) it.3)
 
-      tags : (word shown given : List ℕ) → (word ≡ codes "tag1") ⊎ (word ≡ codes "tag2")
-          → Displays output t (codes "text") (in_quotes shown) → Displays output t word given → given ≢ codes " none"
-          → (u : ℕ) × (u ≤ t) × (t ≤ u + how.keep) × Displays unkept u (codes "text") (in_quotes shown)
-          × Displays unkept u word given
-      tags word shown given (inl e) d p some =
-          let was = was_text shown d in (
-            was.5,
-            was.6,
-            was.7,
-            text shown was,
-            subst (λ w. Displays unkept was.5 w given) (sym e)
-                (tag Tag1 (λ whys other view name. refl) shown given was (subst (λ w. Displays output t w given) e p) some),
-          )
-      tags word shown given (inr e) d p some =
-          let was = was_text shown d in (
-            was.5,
-            was.6,
-            was.7,
-            text shown was,
-            subst (λ w. Displays unkept was.5 w given) (sym e)
-                (tag Tag2 (λ whys other view name. refl) shown given was (subst (λ w. Displays output t w given) e p) some),
-          )
+      tags : (word given : List ℕ) → (word ≡ codes "tag1") ⊎ (word ≡ codes "tag2") → Displays output t word given
+          → given ≢ codes " none"
+          → (text : List ℕ) × (u : ℕ) × (u ≤ t) × (t ≤ u + how.keep) × Displays output t (codes "text") (in_quotes text)
+          × Displays unkept u (codes "text") (in_quotes text) × Displays unkept u word given
+      tags word given (inl e) d some =
+          let it = with_its_text Tag1 (λ whys view one two. ap tag_content one) (λ whys other view name. refl) given
+          (subst (λ w. Displays output t w given) e d) some in
+          (it.0, it.1, it.2, it.3, it.4, it.5, subst (λ w. Displays unkept it.1 w given) (sym e) it.6)
+      tags word given (inr e) d some =
+          let it = with_its_text Tag2 (λ whys view one two. ap tag_content two) (λ whys other view name. refl) given
+          (subst (λ w. Displays output t w given) e d) some in
+          (it.0, it.1, it.2, it.3, it.4, it.5, subst (λ w. Displays unkept it.1 w given) (sym e) it.6)
+
+-- one text is displayed in a slot
+one_text : (how : Decoding) (received output : List ℕ) → length (slots received) < 2 ^ 64
+    → LogWrites (keeping 0 how) received output → (u : ℕ) → u < length (slots received) → (a b : List ℕ)
+    → Displays output u (codes "text") (in_quotes a) → Displays output u (codes "text") (in_quotes b) → a ≡ b
+one_text how received output few w u below a b p q =
+    let view = (at_t (keeping 0 how) received output output few w w u below).0.view in
+    let one = content (keeping 0 how) received output output few w w u below Text (in_quotes a) p in
+    let other = content (keeping 0 how) received output output few w w u below Text (in_quotes b) q in
+    let x = has_value (why_text one.0) view.text a one.1 in
+    let y = has_value (why_text other.0) view.text b other.1 in
+    x.2 ∙ ap printed (same_Some x.0 y.0 (sym x.1 ∙ y.1)) ∙ sym y.2
 
 -- what is kept was displayed
 pub kept_was_displayed : WhatIsKeptWasDisplayed
@@ -389,20 +463,22 @@ kept_was_on_air headline head m k n script log is some writes received output re
         let at_u = (safe it.0 it.1).values word shown shown of it.3 it.3 in
         (at_u.0, later word shown at_u.0 it.0 it.1 it.2 at_u.2)
 
-    tags : (word text content : List ℕ) → (word ≡ codes "tag1") ⊎ (word ≡ codes "tag2")
-        → Displays output t (codes "text") (in_quotes text) → Displays output t word content → content ≢ codes " none"
-        → (i : ℕ) × WasOnAir (codes "text") (m + k) (m + k + n) t script text i
-        × WentWith word (m + k) t script text content i
-    tags word text content of d p none =
-        let it = was.tags word text content of d p none in
-        let at_u = (safe it.0 it.1).tags word text content of it.3 it.4 none in
-        let went = at_u.2 in
-        let before = went.past in
-        let lasted = went.lasted in
-        let past = it.1 in (
-          at_u.0,
-          later (codes "text") text at_u.0 it.0 it.1 it.2 at_u.1,
-          went_later word text content at_u.0 it.0 it.1 at_u.2,
+    tags : (word content : List ℕ) → (word ≡ codes "tag1") ⊎ (word ≡ codes "tag2") → Displays output t word content
+        → content ≢ codes " none"
+        → (text : List ℕ) × (i : ℕ) × Displays output t (codes "text") (in_quotes text)
+        × WasOnAir (codes "text") (m + k) (m + k + n) t script text i × WentWith word (m + k) t script text content i
+    tags word content of d none =
+        let (text, u, past, recent, shows, has, tag) = was.tags word content of d none in
+        let at_u = (safe u past).tags word content of tag none in
+        let same : at_u.0 ≡ text =
+        one_text how received unkept.0 reaches.few unkept.1 u (omega (arith, past, below)) at_u.0 text at_u.2 has in (
+          text,
+          at_u.1,
+          shows,
+          subst (λ x. WasOnAir (codes "text") (m + k) (m + k + n) t script x at_u.1) same
+              (later (codes "text") at_u.0 at_u.1 u past recent at_u.3),
+          subst (λ x. WentWith word (m + k) t script x content at_u.1) same
+              (went_later word at_u.0 content at_u.1 u past at_u.4),
         )
 
 pub nothing_new_is_kept : NothingNew → NothingNewIsKept

@@ -11,7 +11,7 @@ use Rattle.rds_script.specs.declared.form.Form.TheVariants.{Log}
 use Rattle.rds_wire.specs.Headline.{Displays, Reaches, WasOnAir, change_line, in_quotes, lines, slots}
 use Rattle.rds_wire.specs.Kept.{IsRecent, NothingNewIsKept, WasDisplayed, WhatIsKeptWasDisplayed, WhatIsKeptWasOnAir}
 use Rattle.rds_wire.specs.Wire.{IsHead, station_of}
-use Rattle.rds_wire.proofs.HeadlineRows.{early, early_lines, is_gone, mixed, mixed_line, not_another, not_lately, output}
+use Rattle.rds_wire.proofs.HeadlineRows.{early, early_line, is_gone, mixed, mixed_line, not_another, not_lately, output}
 use Rattle.rds_wire.proofs.HeadlineRows.{script, shown_in, tags_too_early}
 
 -- ---- what was displayed
@@ -56,11 +56,9 @@ is_tag e = (let bad : 73 ≡ 110 = ap (λ (l : List ℕ). get_or l 1 0) e in ome
 -- a tag that was not displayed
 tag_of_nothing : WasDisplayed 1 1 early in_1 → ⊥
 tag_of_nothing was =
-    let it = was.tags (codes "tag1") (codes "HI") title (inl refl)
-    (shown_in 1 early (codes "text") (codes " \"HI\"") early_lines.0) (shown_in 1 early (codes "tag1") title early_lines.1)
-    is_tag in
-    let shown = it.4 in
-    let upto = it.1 in
+    let it = was.tags (codes "tag1") title (inl refl) (shown_in 1 early (codes "tag1") title early_line) is_tag in
+    let shown = it.6 in
+    let upto = it.2 in
     let past = shown.past in no_tag shown.slot title (omega (arith, upto, past)) shown.line
 
 -- ---- what is recent
@@ -88,10 +86,8 @@ too_old is =
 -- tags less than d slots after the start of their text
 too_early : IsRecent 1 1 1 script early → ⊥
 too_early is =
-    let it = is.tags (codes "tag1") (codes "HI") title (inl refl)
-    (shown_in 1 early (codes "text") (codes " \"HI\"") early_lines.0) (shown_in 1 early (codes "tag1") title early_lines.1)
-    is_tag in
-    tags_too_early it.0 (codes "HI") title it.2
+    let it = is.tags (codes "tag1") title (inl refl) (shown_in 1 early (codes "tag1") title early_line) is_tag in
+    tags_too_early it.1 it.0 title it.4
 
 -- ---- the laws say so of whatever reaches a receiver
 

@@ -41,7 +41,7 @@ use Rattle.rds_lines.specs.LogSlots.{IsLogOf}
 use Rattle.rds_wire.specs.Headline.{Displays, Reaches, in_quotes, slots}
 use Rattle.rds_wire.specs.NothingNew.{NothingNew, decoding}
 use Rattle.rds_wire.specs.Received.{first_entries, own_group}
-use Rattle.rds_wire.proofs.Headline.{displays_shows, in_output, not_nothing, of_output, same_printed}
+use Rattle.rds_wire.proofs.Headline.{displays_shows, newest_displays, not_nothing, same_printed}
 use Rattle.rds_wire.proofs.MissesNothing.{IsShownByWhole, TagsSendNothing, by_whole, by_whole_recorded, names_agree}
 use Rattle.rds_wire.proofs.MissesNothing.{texts_agree}
 use Rattle.rds_wire.proofs.Reached.{heard_late, origins_of, slots_long}
@@ -64,18 +64,6 @@ pub heard_first : (pi n : ℕ) (slots : List (Option Group))
 heard_first pi n slots =
     sym (drop-map (heard_in pi) (length slots - n) slots)
     ∙ ap (λ j. drop (j - n) (heard_of pi slots)) (sym (length-map slots (heard_in pi)))
-
--- an output displays the newest content of a part
-pub displays_newest : (displays : List Display) (output : List ℕ) → output ≡ changes_of displays → (part : Part)
-    (content : List ℕ) (u : ℕ) → HasNewest displays part content u → Displays output u (part_name part) content
-displays_newest displays output is part content u (slot, past, line, newest) = record {
-  slot = slot;
-  past = past;
-  line = in_output displays output is slot part content
-      (contains_from_in (line_in slot part content) (lines_of displays) line);
-  newest = λ v other after upto has. newest v other after upto
-      (in_from_contains (line_in v part other) (lines_of displays) (of_output displays output is v part other has));
-}
 
 module _ (part : Part) (value : ShownView → Option (List ℕ)) (why : Option Whys → Option WhyNone)
     (is : (whys : Option Whys) (view : ShownView) → part_content part whys view ≡ text_content (why whys) (value view))
@@ -101,7 +89,7 @@ module _ (part : Part) (value : ShownView → Option (List ℕ)) (why : Option W
     core.1,
     core.2,
     subst (λ l. Displays whole core.0 (part_name part) (in_quotes l)) (sym val.2)
-        (displays_newest w.write.write.displays whole w.write.write.changes part (quoted val.0) core.0 line),
+        (newest_displays w.write.write.displays whole w.write.write.changes core.0 part (quoted val.0) line),
   )
     where
       sent : IsLogOf a.rtplus log passes.slots

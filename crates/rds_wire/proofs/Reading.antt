@@ -604,6 +604,7 @@ newest_line displays p content u d at few is some = elim (newest_or_none display
 -- in each slot, each part shows some content
 pub shows_some : (displays : List Display) (output : List ℕ) → output ≡ changes_of displays → (p : Part) (u : ℕ)
     (d : Display) → HasEntry 0 displays u d → length displays < 2 ^ 64 → (content : List ℕ) × Shows output u p content
+    × (HasNewest displays p content u ⊎ (content ≡ none_content None))
 shows_some displays output is p u d at few = elim (newest_or_none displays p u d at few) [
   | inl (content, (s, past, line, none)) ↦ (
     content,
@@ -616,6 +617,7 @@ shows_some displays output is p u d at few = elim (newest_or_none displays p u d
       newest = λ v other after upto has. none v other after upto
           (in_from_contains (line_in v p other) (lines_of displays) has);
     },
+    inl (s, past, line, none),
   )
   | inr none ↦ (
     none_content None,
@@ -627,5 +629,6 @@ shows_some displays output is p u d at few = elim (newest_or_none displays p u d
       },
       refl,
     ),
+    inr refl,
   )
 ]

@@ -86,11 +86,11 @@ rows script = records default_config (strip_bom script)
 
 -- whether the row begins with this word
 abbrev pub has_word : List ℕ → Row → Bool
-has_word word row = bytes_eq (slice_index_or row 0 []) word
+has_word word fields = bytes_eq (slice_index_or fields 0 []) word
 
 -- the argument of the row
 abbrev pub argument_of : Row → List ℕ
-argument_of row = slice_index_or row 1 []
+argument_of fields = slice_index_or fields 1 []
 
 -- the state of the station, for texts or for names: how many of them it accepted, the slot of its last restart, and the
 -- slot and the argument of the one on air
@@ -199,16 +199,17 @@ pub record Receiver (pi m k : ℕ) (log : List ℕ) : Type 0 where
   pub decodes : LogWrites (plain pi m) received output
 
 -- what two receivers display in slot t is safe. Each text was on air in one of the last d slots, and the two are one text,
--- or two that follow each other; names likewise. Each tag went with the text beside it. (If only one receiver displays a
--- text, take it twice)
+-- or two that follow each other; names likewise. (If only one receiver displays a text, take it twice.) Beside each tag is a
+-- text, and the tag went with it
 pub record IsSafe (d t : ℕ) (script one other : List ℕ) : Type 0 where
   pub values : (word shown other_shown : List ℕ) → (word ≡ codes "text") ⊎ (word ≡ codes "name")
       → Displays one t word (in_quotes shown) → Displays other t word (in_quotes other_shown)
       → (i j : ℕ) × WasOnAir word d d t script shown i × WasOnAir word d d t script other_shown j
       × (i ≤ j + 1) × (j ≤ i + 1)
-  pub tags : (word text content : List ℕ) → (word ≡ codes "tag1") ⊎ (word ≡ codes "tag2")
-      → Displays one t (codes "text") (in_quotes text) → Displays one t word content → content ≢ codes " none"
-      → (k : ℕ) × WasOnAir (codes "text") d d t script text k × WentWith word d t script text content k
+  pub tags : (word content : List ℕ) → (word ≡ codes "tag1") ⊎ (word ≡ codes "tag2")
+      → Displays one t word content → content ≢ codes " none"
+      → (text : List ℕ) × (k : ℕ) × Displays one t (codes "text") (in_quotes text)
+      × WasOnAir (codes "text") d d t script text k × WentWith word d t script text content k
 
 -- whatever two receivers of the log of a script display in a slot is safe, for d = M + K
 abbrev pub Headline : Type 0

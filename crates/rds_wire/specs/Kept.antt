@@ -19,15 +19,16 @@ use Rattle.rds_wire.specs.Wire.{IsHead, station_of}
 abbrev pub keeping : ℕ → Decoding → Decoding
 keeping n how = record how { keep = n }
 
--- what the output displays in slot t, the plain one displayed then, or at most n slots before. A tag came with its text
+-- what the output displays in slot t, the plain one displayed then, or at most n slots before. Beside each tag is a text,
+-- and both were displayed together
 pub record WasDisplayed (n t : ℕ) (output unkept : List ℕ) : Type 0 where
   pub values : (word shown : List ℕ) → (word ≡ codes "text") ⊎ (word ≡ codes "name")
       → Displays output t word (in_quotes shown)
       → (u : ℕ) × (u ≤ t) × (t ≤ u + n) × Displays unkept u word (in_quotes shown)
-  pub tags : (word text content : List ℕ) → (word ≡ codes "tag1") ⊎ (word ≡ codes "tag2")
-      → Displays output t (codes "text") (in_quotes text) → Displays output t word content → content ≢ codes " none"
-      → (u : ℕ) × (u ≤ t) × (t ≤ u + n) × Displays unkept u (codes "text") (in_quotes text)
-      × Displays unkept u word content
+  pub tags : (word content : List ℕ) → (word ≡ codes "tag1") ⊎ (word ≡ codes "tag2")
+      → Displays output t word content → content ≢ codes " none"
+      → (text : List ℕ) × (u : ℕ) × (u ≤ t) × (t ≤ u + n) × Displays output t (codes "text") (in_quotes text)
+      × Displays unkept u (codes "text") (in_quotes text) × Displays unkept u word content
 
 -- of one log, what `decode` displays with `--keep n` was displayed without it
 abbrev pub WhatIsKeptWasDisplayed : Type 0
@@ -36,13 +37,15 @@ WhatIsKeptWasDisplayed =
     → LogWrites how received output → LogWrites (keeping 0 how) received unkept
     → (t : ℕ) → t < length (slots received) → WasDisplayed how.keep t output unkept
 
--- what a display shows in slot t was on air in one of the last d + n slots. Each tag went with the text beside it
+-- what a display shows in slot t was on air in one of the last d + n slots. Beside each tag is a text, and the tag went
+-- with it
 pub record IsRecent (d n t : ℕ) (script output : List ℕ) : Type 0 where
   pub values : (word shown : List ℕ) → (word ≡ codes "text") ⊎ (word ≡ codes "name")
       → Displays output t word (in_quotes shown) → (i : ℕ) × WasOnAir word d (d + n) t script shown i
-  pub tags : (word text content : List ℕ) → (word ≡ codes "tag1") ⊎ (word ≡ codes "tag2")
-      → Displays output t (codes "text") (in_quotes text) → Displays output t word content → content ≢ codes " none"
-      → (k : ℕ) × WasOnAir (codes "text") d (d + n) t script text k × WentWith word d t script text content k
+  pub tags : (word content : List ℕ) → (word ≡ codes "tag1") ⊎ (word ≡ codes "tag2")
+      → Displays output t word content → content ≢ codes " none"
+      → (text : List ℕ) × (k : ℕ) × Displays output t (codes "text") (in_quotes text)
+      × WasOnAir (codes "text") d (d + n) t script text k × WentWith word d t script text content k
 
 -- the headline with `--keep n`, for d = M + K
 abbrev pub WhatIsKeptWasOnAir : Type 0
