@@ -1,7 +1,7 @@
 """The headline itself, by the program alone: `encode`, damage by chance, and `decode` for two receivers.
 
-plain_headline.py, which has the definitions of the headline once more, judges each line that is printed. It asks the program
-nothing.
+plain_headline.py, which has the definitions of the headline once more, judges each line that is printed. It asks the
+program nothing.
 """
 import collections
 import random
@@ -30,8 +30,8 @@ def origins(rng, late):
 
 
 def as_log(rng, slots):
-    """Returns the slots as a log in one of the forms that `decode` reads: with comments, groups of another programme and damaged
-    groups in lost slots, small letters, more after the blocks, and either end of a line."""
+    """Returns the slots as a log in one of the forms that `decode` reads: with comments, groups of another programme and
+    damaged groups in lost slots, small letters, more after the blocks, and either end of a line."""
     log = []
     for line in slots:
         if rng.random() < 1 / 32:
@@ -60,8 +60,8 @@ class Wire(ProgramCase):
     """`encode`, damage, `decode`."""
 
     def play(self, seed, longer=0):
-        """Plays a script with two receivers. Returns the parts that they show, slot by slot, and those that are not safe, and
-        M, K and the rows."""
+        """Plays a script with two receivers. Returns the parts that they show, slot by slot, and those that are not safe,
+        and M, K and the rows."""
         rng = random.Random(seed)
         dwell, late = rng.randrange(1, 9), rng.randrange(4)
         rows = list(random_rows(rng, SLOTS))
