@@ -80,6 +80,21 @@ def right(rng, slots):
     return log
 
 
+def tunnel(rng, lines):
+    """Leaves out 5 in 100 lines, and up to 150 in a row."""
+    begin = rng.randrange(100, len(lines) - 300)
+    return [it for slot, it in enumerate(lines) if rng.random() >= 0.05 and not begin <= slot < begin + rng.randrange(60, 150)]
+
+
+def left_out(rng, lines):
+    return [it for it in lines if rng.random() >= 0.05]
+
+
+# what a recorder keeps of all lines: all; all, with lines of lost slots; the lines of received groups alone; of a road too
+KEPT = [lambda rng, lines: lines, lambda rng, lines: [(it if rng.random() >= 0.05 else None, clock) for it, clock in lines],
+        left_out, left_out, tunnel]
+
+
 class Page(Case):
     def test_its_sentences_are_those_of_the_page(self):
         letter, (begin, please, *rest) = script("programs/letter"), on_the_page()
@@ -134,15 +149,13 @@ class AnyForm(Case):
 
 class RightStations(Case):
     def test_none_is_accused(self):
-        """200 stations, in all forms: whole, with 5 in 100 lines left out, and with lines of as many lost slots."""
+        """200 stations, in all forms, with lost lines: see KEPT."""
         letter, accused, answers = script("programs/letter"), [], []
         letter.PROGRAM, letter.say = found_program(), lambda what: None
         rng = random.Random(SEED)
         for number, log in self.cases(right(rng, 1500) for _ in range(200)):
             lines = [(tuple(it.split()), clock) for it, clock in zip(log, clocks(len(log)))]
-            # the recorder leaves the lost lines out, or it has a line for each
-            kept = [it for it in lines if rng.random() >= 0.05] if number % 4 else lines
-            kept = [(it if rng.random() >= 0.05 else None, clock) for it, clock in lines] if number % 4 == 1 else kept
+            kept = KEPT[number % len(KEPT)](rng, lines)
             name, make, _, _ = FORMS[number % len(FORMS)]
             folder = temporary_folder(self)
             with open(os.path.join(folder, "recorded"), "w", encoding="utf-8") as file:
@@ -151,7 +164,7 @@ class RightStations(Case):
             judging.read(os.path.join(folder, "recorded"))
             result = letter.result_of(judging)
             answers.append(result["answer"])
-            if number % 4 < 2 or name in TIMED:
+            if number % len(KEPT) < 2 or number % len(KEPT) < 4 and name in TIMED:
                 self.check(f"seed {SEED}, station {number}, {name}", (result["answer"], result["items"]), ("yes", []),
                            "\n".join(log))
             elif result["answer"] == "no" or result["items"]:
@@ -210,6 +223,9 @@ HOUR = timed(changed(announced(habit(tags=0), 0xB), lambda slot, it: it.replace(
 DOUBTS = [
     ("nothing", timed([ZERO_AC] * 200)), ("few", timed(changed(habit(), lambda slot, it: it if slot % 3 else LOST))),
     ("break", HOUR + HOUR), ("coarse", re.sub(r"\.\d\d\n", "\n", HOUR)), ("no_times", "\n".join(habit(tags=0))),
+    # the text of slot 1027 is heard from slot 1161 on, and its tags from slot 1157 on
+    ("gap", timed(changed(habit(slots=4000), lambda slot, it: LOST if 1020 <= slot < 1157 else "C201 B148 2002 0000"
+                          if slot in (1157, 1165) else it))),
     ("wrong_group", timed(changed(habit(slots=41_000), lambda slot, it: it if slot != 9001 else it[:10] + "4142 4344"))),
 ]
 
