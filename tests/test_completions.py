@@ -110,7 +110,7 @@ class Completions(Case):
             zsh = re.search(rf"^ +{command}\) _arguments .*\$file ;;$", text_of("tools/completions/_rdsrt"), re.M)
             self.check(f"zsh after {command}", bool(zsh), True)
 
-    @needs("bash", "fish", "zsh")
+    @needs("fish")
     def test_the_programs_around_it_have_the_options_of_their_help(self):
         """zsh reads them itself."""
         paths = {**os.environ, "PATH": package.installed_programs() + os.pathsep + os.environ["PATH"]}
