@@ -51,6 +51,8 @@ def asked():
     found = words.parse_args()
     if found.target:
         os.environ["RDSRT_TARGET"] = found.target
+        # test_arm runs them for the target beside those of this machine's program
+        os.environ.pop("RDSRT_TESTED", None)
     if found.unproved:
         os.environ["RDSRT_UNPROVED"] = "1"
     return found
