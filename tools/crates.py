@@ -13,7 +13,7 @@ LIST = os.path.join(ROOT, "crates.txt")
 RT = shutil.which("rt") or sys.exit('the command rt (the kit of Rattle) is not in PATH: see README, "Get it"')
 KIT = os.path.dirname(os.path.dirname(os.path.realpath(RT)))
 # how long the first proof of the program takes
-FIRST_PROOF = "15 to 35 minutes on 4 cores"
+FIRST_PROOF = "12 to 35 minutes on 4 cores"
 
 
 def rows():
