@@ -4,8 +4,8 @@ before it says why K were skipped, and what to type.
 usage: python3 -m tests [--target aarch64 | --unproved] [NAME..]
 
 A NAME is a module, a class or a method: test_slots, test_slots.Live, test_slots.Live.test_full_output_is_noted. Each
-class runs in a process of its own, and a line says how many of them are done. If that ends in the middle of a test, this test has failed, and the next process
-runs the others.
+class runs in a process of its own, and a line says how many of them are done. If that process ends in the middle of a
+test, this test has failed, and the next process runs the others.
 
 The tests stop if a source is newer than the program. With --unproved they take an unproved build of the sources then,
 which takes 40 seconds to 2 minutes.
@@ -35,7 +35,8 @@ LIMIT = 7200
 # the modules that take longest begin first
 LONGEST = ("test_page_build", "test_arm", "test_microcontrollers", "test_witness", "test_c_library", "test_fm",
            "test_random_scripts", "test_radios", "test_failing_calls", "test_audit", "test_python_package", "test_json",
-           "test_worlds", "test_clocks", "test_monitor", "test_station")
+           "test_worlds", "test_clocks", "test_monitor", "test_station", "test_page_log", "test_page_links", "test_page_files",
+           "test_page_faults", "test_page_access", "test_page_colours")
 # lines of a failed test that stand at the end again
 MOST_AGAIN = 3
 running, printing = set(), threading.Lock()

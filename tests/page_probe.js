@@ -35,6 +35,33 @@ const probe = (() => {
     await new Promise((done) => { requestAnimationFrame(() => setTimeout(done)); });
   }
 
+  /* Steps in the history count as such a wait until their event came. */
+  for (const way of ["back", "forward"]) {
+    const step = history[way].bind(history);
+    history[way] = () => {
+      const came = new Promise((done) => { window.addEventListener("popstate", () => setTimeout(done), { once: true }); });
+      awaited.add(came);
+      came.then(() => awaited.delete(came));
+      step();
+    };
+  }
+
+  /* The timers by which the page waits for a pause in what a user types: `soon` in ui/parts.js. */
+  const PAUSE = 120, pauses = new Set(), { setTimeout: begin, clearTimeout: end } = window;
+  window.setTimeout = (what, delay, ...given) => {
+    const timer = begin(() => { pauses.delete(timer); what(...given); }, delay);
+    if (delay === PAUSE) pauses.add(timer);
+    return timer;
+  };
+  window.clearTimeout = (timer) => { pauses.delete(timer); end(timer); };
+
+  /* Waits until the tabs have taken what was typed, and have all their answers. */
+  async function settled() {
+    await idle();
+    while (pauses.size) await new Promise((done) => { begin(done, 5); });
+    await idle();
+  }
+
   /* Stops the clock by which a cursor plays: from then on it goes by what `pass` gives it. */
   const clock = { now: 0 }, nextFrame = requestAnimationFrame.bind(window);
   function stopClock() {
@@ -244,7 +271,7 @@ const probe = (() => {
 
   return {
     bars, choose, colour, contrasts, displays, drop, dropAll, faint, faintBorders, idle, inksOf, keepBack, letGo, longestTask, pass, pick,
-    place, run, runs, stopClock, stripInks, swatches, textOfLog, ticks, timeOf, yardstick,
+    place, run, runs, settled, stopClock, stripInks, swatches, textOfLog, ticks, timeOf, yardstick,
     isReady: () => $app.state.ready || at("no-engine").textContent !== "",
     codes: (tab, name) => [...laneOf(timelineOf(tab), name).codes],
     lanes: (tab) => timelineOf(tab).lanes.map(({ name }) => name),

@@ -89,9 +89,8 @@ def shown(b, radio):
 
 
 def settle(b):
-    """Waits as long as the page waits after a change of a field."""
-    b.run("new Promise(done => setTimeout(done, 250))")
-    idle(b)
+    """Waits until the page has taken what was typed, and has all its answers."""
+    b.run("probe.settled()")
 
 
 def visit(b, url):
