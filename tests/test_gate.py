@@ -111,7 +111,7 @@ class Needed(Case):
             first, line = said.splitlines()
             self.check("the line", line, "    apt-get install -y --no-install-recommends fish zsh")
             # those of test_completions that want a shell
-            self.check("how many are skipped", first, "3 tests are skipped without these packages. To install them:")
+            self.check("how many are skipped", first, "4 tests are skipped without these packages. To install them:")
             self.check("apt-get", calls, [])
 
     def test_a_message_names_the_package_of_the_list(self):
