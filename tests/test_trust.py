@@ -68,7 +68,7 @@ class Trust(Case):
         """Without the same --rtplus it is false: test_rtplus plays that."""
         page = text_of("docs/TRUST.md")
         headline = page.split("## The headline in words\n")[1].split("\n\n- ")[0]
-        options = "`decode` has the same `--pi`, `--m` and `--rtplus`, and no `--confirm`"
+        options = "`decode` has the same `--pi`, `--m` and `--rtplus`, and neither `--confirm` nor `--keep`"
         self.check("options of decode", options in " ".join(headline.split()), True)
         audit, = re.findall(r"^\| \*\*Audit\*\*.*$", page, re.M)
         self.check("what a yes does not say", "`--rtplus`" in audit.split("|")[3], True)

@@ -9,8 +9,8 @@
 -- P for `None`, and `Q x` for `Some x`. `λ x. y` is a function. `p.0` and `p.1` are the parts of a pair.
 --
 -- Premises. `encode` and `decode` run to the end of their input, with the same PI and the same M. K is the `--k` of
--- `encode`. RT+ tags are in groups 11A. `decode` has neither `--confirm` nor `--why`. A receiver counts each slot of the
--- station, also one that it loses.
+-- `encode`. RT+ tags are in groups 11A. `decode` has none of `--confirm`, `--why` and `--keep`. A receiver counts each slot of
+-- the station, also one that it loses.
 --
 -- These names come from other crates, where the calls promise what they say:
 --   ScriptWrites   `encode` reads this script to its end, and writes this log (rds_script `encode`)
