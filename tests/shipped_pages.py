@@ -22,7 +22,7 @@ USES = [
      "rdsrt encode --pi C201 --pty 10 --m 8 < $examples/chanson.csv | rdsrt audit --pi C201 --m 8", "yes 18\n"),
     ("slots", "echo 'C201 2140 4849 0D20 1.0' | rdsrt slots | rdsrt decode --pi C201", '0 text "HI"\n'),
     ("station", "echo 'N’ Roses' > now.txt && "
-     "rdsrt-station --no-empty-first --at-once --slots 2 --m 1 now.txt | tail -n 1", "text,\"N' Roses\",0,\n"),
+     "rdsrt-station --no-empty-first --at-once --slots 2 --m 1 now.txt | tail -n 1", "text,N' Roses,0,\n"),
     ("JSON", "rdsrt decode --pi F201 < $examples/accents.log | rdsrt-json --pi F201 | "
      "jq -r 'select(.radiotext) | .radiotext' | head -n 1", "Beyoncé - Déjà Vu\n"),
     ("monitor", "echo JAZZ C201 > stations && echo JAZZ C201 2140 4849 0D20 | rdsrt-monitor stations | jq -r .radiotext",
