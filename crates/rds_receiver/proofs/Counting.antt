@@ -7,7 +7,7 @@ use Rattle.std.specs.Prelude.{option_copied}
 use Rattle.rds_fields.specs.declared.message.Message.{Message}
 use Rattle.rds_assembly.specs.ServiceLaws.{no_name_of_none, no_text_of_none}
 use Rattle.rds_receiver.specs.Confirmed.{counted, counted_in}
-use Rattle.rds_receiver.specs.Counts.{CountsOf, CountsOn, after_slot, ends, keeping, kept_stored, none_if}
+use Rattle.rds_receiver.specs.Counts.{CountsOf, CountsOn, ends, kept_stored}
 use Rattle.rds_receiver.specs.Counts.{ended_of, is_still, none_kept}
 use Rattle.rds_receiver.specs.Kept.{AreShowings, GoesOn, IsShowing, Last, Moment, Showing, beside, displayed, flag_of}
 use Rattle.rds_receiver.specs.Kept.{is_recent, kept, last, last_after, name_moment, newest_showing, text_moment}
@@ -64,12 +64,12 @@ goes_on keep left old (Some true) (Some l) counts is some goes = grind (arith, n
 goes_on keep left old (Some false) (Some l) counts is some goes = grind (arith, nat_tests)
 
 -- the numbers are those after one more slot
-pub steps : {X : Type 0} (n : ℕ) (after : StoredKept) (keeps is_shown : Bool) (now : Moment X)
-    (before : List (Moment X)) → is_shown ≡ is_some now.shown
-    → after ≡ kept_stored n (last_after is_shown now.flag (last before))
-    → keeps ≡ (not is_shown && is_recent n (last_after is_shown now.flag (last before)))
+pub steps : {X : Type 0} (n : ℕ) (after : StoredKept) (keeps is_shown : Bool) (held : Option Bool) (now : Moment X)
+    (before : List (Moment X)) → is_shown ≡ is_some now.shown → held ≡ now.flag
+    → after ≡ kept_stored n (last_after is_shown held (last before))
+    → keeps ≡ (not is_shown && is_recent n (last_after is_shown held (last before)))
     → Steps n after keeps now before
-steps n after keeps is_shown now before shown counts is = grind (arith)
+steps n after keeps is_shown held now before shown flag counts is = grind (arith)
 
 -- what goes on: the same is shown, with the same flag
 pub record Stays {X : Type 0} (now : Moment X) (before : List (Moment X)) : Type 0 where
@@ -95,46 +95,52 @@ counts_none n k now (s ∷ older) counts some goes =
 
 -- ---- both services
 
--- a text goes on, and a name
-pub text_stays : (now : Showing) (before : List Showing) → GoesOn (newest_showing before) now
-    → Stays (text_moment now) (map text_moment before)
-text_stays now [] goes = record {
-  none = λ e. grind (arith, goes.view);
+-- a service goes on
+moments_stay : {X : Type 0} (moment : Showing → Moment X) (now : Showing) (before : List Showing)
+    → GoesOn (newest_showing before) now → (moment (newest_showing [])).shown ≡ None
+    → ((s : Showing) → GoesOn s now → (moment now).shown ≡ (moment s).shown)
+    → ((s : Showing) → GoesOn s now → is_some (moment now).shown ≡ true → (moment now).flag ≡ (moment s).flag)
+    → Stays (moment now) (map moment before)
+moments_stay moment now [] goes none shown flag = record {
+  none = λ e. shown (newest_showing []) goes ∙ none;
   shown = λ s older e. (cc);
   flag = λ s older e. (cc);
 }
-text_stays now (x ∷ before) goes = record {
+moments_stay moment now (x ∷ before) goes none shown flag = record {
   none = λ e. (cc);
-  shown = λ s older e. grind (arith, goes.view);
-  flag = λ s older e some. grind (arith, goes.view, goes.text);
+  shown = λ s older e. (let same = shown x goes in cc);
+  flag = λ s older e some. (let same = flag x goes some in cc);
 }
+
+pub text_stays : (now : Showing) (before : List Showing) → GoesOn (newest_showing before) now
+    → Stays (text_moment now) (map text_moment before)
+text_stays now before goes =
+    moments_stay text_moment now before goes refl (λ s on. grind (arith, on.view))
+    (λ s on some. grind (arith, on.view, on.text))
 
 pub name_stays : (now : Showing) (before : List Showing) → GoesOn (newest_showing before) now
     → Stays (name_moment now) (map name_moment before)
-name_stays now [] goes = record {
-  none = λ e. grind (arith, goes.view);
-  shown = λ s older e. (cc);
-  flag = λ s older e. (cc);
-}
-name_stays now (x ∷ before) goes = record {
-  none = λ e. (cc);
-  shown = λ s older e. grind (arith, goes.view);
-  flag = λ s older e some. grind (arith, goes.view, goes.name);
-}
+name_stays now before goes =
+    moments_stay name_moment now before goes refl (λ s on. grind (arith, on.view))
+    (λ s on some. grind (arith, on.view, on.name))
 
 -- without a text a view has no item bits and no tags
 pub nothing_beside : (m first : ℕ) (heard : List (Option Message)) (view : ShownView) → ShowsView m first heard view
     → view.text ≡ None → (view.item ≡ None) × (view.one ≡ None) × (view.two ≡ None)
 nothing_beside m first heard view is none = grind (arith)
 
--- what the display shows
-pub both_show : (n m first : ℕ) (heard : List (Option Message)) (kept : Kept) (text name : StoredKept) (now : Showing)
-    (before : List Showing) → IsShowing m first heard now
-    → Steps n text kept.text (text_moment now) (map text_moment before)
-    → Steps n name kept.name (name_moment now) (map name_moment before)
-    → displayed n (now ∷ before) ≡ keeping kept (displayed n before) now.view
-both_show n m first heard kept text name now before is p q =
-    let none = nothing_beside m first heard now.view is.view in grind (arith)
+-- the numbers, and what is displayed
+pub both_on : (old new : Keeping) (kept : Kept) (m first : ℕ) (heard : List (Option Message)) (now : Showing)
+    (before : List Showing) → IsShowing m first heard now → new.keep ≡ old.keep
+    → Steps old.keep new.text kept.text (text_moment now) (map text_moment before)
+    → Steps old.keep new.name kept.name (name_moment now) (map name_moment before)
+    → CountsOn old new (Some kept) now before
+both_on old new kept m first heard now before is keep texts names =
+    let none = nothing_beside m first heard now.view is.view in
+    record {
+      counts = record { text = rw keep texts.counts; name = rw keep names.counts };
+      shows = (let text = texts.shows in let name = names.shows in grind (arith));
+    }
 
 -- ---- the steps of a display
 
@@ -143,33 +149,8 @@ pub shown_same : (text : Option (Bor (List ℕ))) (shown : Option (List ℕ)) �
     → is_some text ≡ is_some shown
 shown_same text shown e = grind (arith)
 
-shows_with : (view : ShownView) → is_some (with_text view) ≡ is_some view.text
+pub shows_with : (view : ShownView) → is_some (with_text view) ≡ is_some view.text
 shows_with view = grind (arith)
-
--- the numbers, and what is displayed, after a slot in which the receiver was looked at
-pub looked : (old new : Keeping) (result : Kept) (m first : ℕ) (heard : List (Option Message))
-    (shows_text shows_name : Bool) (text_held name_held : Option Bool) (now : Showing) (before : List Showing)
-    → IsShowing m first heard now → CountsOf old before → new.keep ≡ old.keep
-    → shows_text ≡ is_some now.view.text → shows_name ≡ is_some now.view.name
-    → text_held ≡ now.text_flag → name_held ≡ now.name_flag
-    → new.text ≡ kept_stored old.keep (last_after shows_text text_held (last (map text_moment before)))
-    → result.text
-    ≡ (not shows_text && is_recent old.keep (last_after shows_text text_held (last (map text_moment before))))
-    → new.name ≡ kept_stored old.keep (last_after shows_name name_held (last (map name_moment before)))
-    → result.name
-    ≡ (not shows_name && is_recent old.keep (last_after shows_name name_held (last (map name_moment before))))
-    → CountsOn old new (Some result) now before
-looked old new result m first heard shows_text shows_name text_held name_held now before is counts keep text_is name_is
-    text_flag name_flag text keeps_text name keeps_name =
-    let texts = steps old.keep new.text result.text shows_text (text_moment now) (map text_moment before)
-    (text_is ∙ sym (shows_with now.view))
-    (rw text_flag at text) (rw text_flag at keeps_text) in
-    let names = steps old.keep new.name result.name shows_name (name_moment now) (map name_moment before) name_is
-    (rw name_flag at name) (rw name_flag at keeps_name) in
-    record {
-      counts = record { text = rw keep texts.counts; name = rw keep names.counts };
-      shows = both_show old.keep m first heard result new.text new.name now before is texts names;
-    }
 
 -- one service after a slot that goes on: the numbers, and what is displayed
 pub gone_on : {X : Type 0} (n : ℕ) (old after : StoredKept) (result : Option Bool) (held : Option Bool) (now : Moment X)
@@ -189,55 +170,26 @@ gone_on n old after result held now before counts goes flag quiet counted = by o
     by (suc left) some =
         let (after_is, is) = counted (omega (arith, some)) in
         let none = counts_none n old now before counts (omega (arith, some)) goes in
-        let step = steps n after (is_recent n (last_after false held (last before))) false now before (sym none)
-        (rw flag at after_is) (grind (arith)) in
+        let step = steps n after (is_recent n (last_after false held (last before))) false held now before (sym none) flag
+        after_is (grind (arith)) in
         (grind (arith), λ other. grind (arith))
 
--- the numbers, and what is displayed, after a slot that goes on
-pub counted_on : (old new : Keeping) (text name : Option Bool) (text_held name_held : Option Bool) (m first : ℕ)
-    (heard : List (Option Message)) (now : Showing) (before : List Showing) → IsShowing m first heard now
-    → GoesOn (newest_showing before) now → CountsOf old before → new.keep ≡ old.keep
-    → text_held ≡ now.text_flag → name_held ≡ now.name_flag
-    → (old.text.left ≡ 0 → (text ≡ None) × (new.text ≡ old.text))
-    → (0 < old.text.left
-    → (new.text ≡ kept_stored old.keep (last_after false text_held (last (map text_moment before))))
-    × (text ≡ Some (is_recent old.keep (last_after false text_held (last (map text_moment before))))))
-    → (old.name.left ≡ 0 → (name ≡ None) × (new.name ≡ old.name))
-    → (0 < old.name.left
-    → (new.name ≡ kept_stored old.keep (last_after false name_held (last (map name_moment before))))
-    × (name ≡ Some (is_recent old.keep (last_after false name_held (last (map name_moment before))))))
-    → CountsOn old new (Some record { text = is_still text; name = is_still name }) now before
-    × (text ≢ Some false → name ≢ Some false → CountsOn old new None now before)
-counted_on old new text name text_held name_held m first heard now before is goes counts keep text_flag name_flag
-    text_quiet text_counted name_quiet name_counted =
-    let (texts, text_same) = gone_on old.keep old.text new.text text text_held (text_moment now) (map text_moment before)
-    counts.text (text_stays now before goes) text_flag text_quiet text_counted in
-    let (names, name_same) = gone_on old.keep old.name new.name name name_held (name_moment now) (map name_moment before)
-    counts.name (name_stays now before goes) name_flag name_quiet name_counted in
-    let counts_on : CountsOf new (now ∷ before) =
-    record { text = rw keep texts.counts; name = rw keep names.counts } in (
-      record {
-        counts = counts_on;
-        shows = both_show old.keep m first heard record { text = is_still text; name = is_still name } new.text new.name
-            now before is texts names;
-      },
-      λ kept_text kept_name. record {
-        counts = counts_on;
-        shows = ap₂ beside (text_same kept_text) (name_same kept_name);
-      },
-    )
-
+-- the display changes if a text or a name has ended
 pub ended_on : (old new : Keeping) (text name : Option Bool) (now : Showing) (before : List Showing)
     → CountsOn old new (Some record { text = is_still text; name = is_still name }) now before
-    × (text ≢ Some false → name ≢ Some false → CountsOn old new None now before)
+    → (text ≢ Some false → name ≢ Some false → displayed old.keep (now ∷ before) ≡ displayed old.keep before)
     → CountsOn old new (ended_of text name) now before
-ended_on old new (Some false) name now before on = on.0
-ended_on old new None (Some false) now before on = on.0
-ended_on old new (Some true) (Some false) now before on = on.0
-ended_on old new None None now before on = on.1 (λ e. (cc)) (λ e. (cc))
-ended_on old new None (Some true) now before on = on.1 (λ e. (cc)) (λ e. (cc))
-ended_on old new (Some true) None now before on = on.1 (λ e. (cc)) (λ e. (cc))
-ended_on old new (Some true) (Some true) now before on = on.1 (λ e. (cc)) (λ e. (cc))
+ended_on old new (Some false) name now before on same = on
+ended_on old new None (Some false) now before on same = on
+ended_on old new (Some true) (Some false) now before on same = on
+ended_on old new None None now before on same =
+    record { counts = on.counts; shows = same (λ e. (cc)) (λ e. (cc)) }
+ended_on old new None (Some true) now before on same =
+    record { counts = on.counts; shows = same (λ e. (cc)) (λ e. (cc)) }
+ended_on old new (Some true) None now before on same =
+    record { counts = on.counts; shows = same (λ e. (cc)) (λ e. (cc)) }
+ended_on old new (Some true) (Some true) now before on same =
+    record { counts = on.counts; shows = same (λ e. (cc)) (λ e. (cc)) }
 
 -- a slot that goes on, if nothing is counted
 pub quiet_on : (k : Keeping) (now : Showing) (before : List Showing) → GoesOn (newest_showing before) now
@@ -266,19 +218,6 @@ displays_now m first heard now before is =
     by : (view : ShownView) → (view.text ≡ None → (view.item ≡ None) × (view.one ≡ None) × (view.two ≡ None))
         → beside (with_text view) view.name ≡ view
     by view none = grind (arith)
-
--- so it changes with it
-pub none_kept_on : (t : Tuning) (heard : List (Option Message)) (is_changed : Bool) (now : Showing)
-    (showings : List Showing) → AreShowings t heard (now ∷ showings)
-    → (is_changed ≡ false → GoesOn (newest_showing showings) now)
-    → displayed 0 (now ∷ showings) ≡ after_slot (none_if is_changed) (displayed 0 showings) now.view
-none_kept_on t [] is_changed now showings are goes = absurd are
-none_kept_on t (heard ∷ before) true now showings are goes = displays_now _ _ _ now showings are.0
-none_kept_on t (heard ∷ before) false now [] are goes =
-    displays_now _ _ _ now [] are.0 ∙ (goes refl).view
-none_kept_on t (heard ∷ []) false now (s ∷ older) are goes = absurd are.1
-none_kept_on t (heard ∷ h ∷ before) false now (s ∷ older) are goes =
-    displays_now _ _ _ now (s ∷ older) are.0 ∙ (goes refl).view ∙ sym (displays_now _ _ _ s older are.1.0)
 
 -- ---- the ends of slots
 

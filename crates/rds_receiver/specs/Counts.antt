@@ -1,7 +1,7 @@
 -- What a display counts that keeps texts and names, as plain numbers, and what a slot changes on it. Lists have the
 -- newest first.
-use Rattle.std.specs.Prelude.{◌≡◌, ◌+◌, ◌-◌, ◌==◌, ◌||◌, ℕ, Bool, true, false, List, [], ◌∷◌, Option, None, Some, if◌then◌else◌}
-use Rattle.std.specs.Prelude.{map, nat_le, not}
+use Rattle.std.specs.Prelude.{◌≡◌, ◌+◌, ◌-◌, ◌==◌, ◌||◌, ℕ, Bool, true, false, List, [], ◌∷◌, Option, None, Some}
+use Rattle.std.specs.Prelude.{if◌then◌else◌, map, nat_le, not}
 use Rattle.rds_receiver.specs.Kept.{Last, Showing, displayed, last, name_moment, text_moment}
 use Rattle.rds_receiver.specs.Shown.{ShownView}
 use Rattle.rds_receiver.specs.declared.keeping.Keeping.{Keeping}
@@ -28,7 +28,8 @@ left_of n age = if age == 0 then 0 else n + 1 - age
 -- the numbers of a display that keeps for n slots
 abbrev pub kept_stored : ℕ → Option Last → StoredKept
 kept_stored n None = none_kept
-kept_stored n (Some l) = if nat_le l.age n then record { left = left_of n l.age; flag = flag_code l.flag } else none_kept
+kept_stored n (Some l) =
+    if nat_le l.age n then record { left = left_of n l.age; flag = flag_code l.flag } else none_kept
 
 -- the counts are those after these slots
 pub record CountsOf (k : Keeping) (showings : List Showing) : Type 0 where
@@ -54,11 +55,6 @@ after_slot (Some kept) before now = keeping kept before now
 pub record CountsOn (old new : Keeping) (change : Option Kept) (now : Showing) (before : List Showing) : Type 0 where
   pub counts : CountsOf new (now ∷ before)
   pub shows : displayed old.keep (now ∷ before) ≡ after_slot change (displayed old.keep before) now.view
-
--- what changes on a display that keeps nothing
-abbrev pub none_if : Bool → Option Kept
-none_if false = None
-none_if true = Some record { text = false; name = false }
 
 -- a value is still kept, or it has ended; neither if none was kept
 abbrev pub is_still : Option Bool → Bool

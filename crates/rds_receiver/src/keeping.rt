@@ -1,7 +1,7 @@
 //! For how long a display keeps a text or a name that its receiver does not show any more.
 ghost use Rattle.std.specs.Prelude.{◌≡◌, ◌&&◌, ◌<◌, ◌-◌, ◌==◌, [], ℕ, Bool, List, Option, false, if◌then◌else◌, not};
 ghost use Rattle.rds_fields.specs.declared.message.Message.{Message};
-ghost use Rattle.rds_receiver.specs.Counts.{CountsOf, CountsOn, ended_of, ends, kept_stored, none_if};
+ghost use Rattle.rds_receiver.specs.Counts.{CountsOf, CountsOn, ended_of, ends, kept_stored};
 ghost use Rattle.rds_receiver.specs.Kept.{GoesOn, IsShowing, Last, Showing, is_recent, last_after, newest_showing};
 ghost use Rattle.rds_receiver.specs.ReceiverAt.{WhatItHeard};
 
@@ -38,23 +38,6 @@ pub struct Keeping {
 pub struct Kept {
     pub text: bool,
     pub name: bool,
-}
-
-impl Kept {
-    /// Returns what a display changes that keeps nothing, or `None` if the receiver's slot returned false.
-    #[inline(always)]
-    pub fn none_if(is_changed: bool) -> Option<Kept>
-        ensures { result ≡ none_if is_changed }
-    {
-        if is_changed {
-            Some(Kept {
-                text: false,
-                name: false,
-            })
-        } else {
-            None
-        }
-    }
 }
 
 impl StoredKept {
