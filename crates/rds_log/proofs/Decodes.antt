@@ -4,13 +4,12 @@ use Rattle.std.proofs.Common.{ap, ap₂, inl, inr, Result, subst, sym, ◌<◌, 
 use Rattle.std.proofs.lemmas.List.{append-nil}
 use Rattle.rds_block.specs.declared.group.Group.{Group}
 use Rattle.rds_receiver.specs.Confirmed.{counted}
-use Rattle.rds_receiver.specs.Counts.{CountsOf, after_slot}
-use Rattle.rds_receiver.specs.Kept.{AreShowings, GoesOn, IsShowing, Showing, displayed, newest_showing}
+use Rattle.rds_receiver.specs.Counts.{CountsOn, after_slot}
+use Rattle.rds_receiver.specs.Kept.{AreShowings, IsShowing, Showing, displayed, newest_showing}
 use Rattle.rds_receiver.specs.NotShown.{whys_of}
 use Rattle.rds_receiver.specs.Receipts.{Tuning, heard_of}
 use Rattle.rds_receiver.specs.Shown.{IsView, ShownView}
 use Rattle.rds_receiver.specs.ReceiverAt.{ReceiverAt}
-use Rattle.rds_receiver.specs.declared.keeping.Keeping.{Keeping}
 use Rattle.rds_receiver.specs.declared.keeping.Kept.{Kept}
 use Rattle.rds_receiver.specs.declared.why.Whys.{Whys}
 use Rattle.rds_receiver.proofs.Counting.{newest_is, same_showings, showing_with}
@@ -18,7 +17,7 @@ use Rattle.rds_view_lines.specs.NoChange.{no_change}
 use Rattle.rds_view_lines.specs.Output.{Display, change, slot_prefix, changes_of}
 use Rattle.rds_log.specs.LogWrites.{AreDisplays, IsDisplay, SayWhys, LinesWrite, tuning_of, LogWrites}
 use Rattle.rds_view_lines.specs.KeptView.{view_kept}
-use Rattle.rds_log.specs.Inside.ViewLines.{ViewsStandAt, GivesChange, ShowsChange}
+use Rattle.rds_log.specs.Inside.ViewLines.{ViewsStandAt, GivesChange}
 use Rattle.rds_log.specs.declared.decoder.ViewLines.{ViewLines}
 use Rattle.rds_fields.specs.TagGroup.{exchanged_in}
 use Rattle.rds_io.specs.Told.{Traffic}
@@ -50,22 +49,20 @@ use Rattle.rds_log.specs.declared.audit_log.Stop.TheVariants.{FirstFault, LogEnd
 -- ---- how the displays and their changes go on by a slot
 
 -- a slot that was handled: its display, and the changes that it appends
-pub slot_given : (keeps why : Bool) (n : ℕ) (t : Tuning) (v after : ViewLines) (slots : List (Option Group))
+pub slot_given : (why : Bool) (n : ℕ) (t : Tuning) (v after : ViewLines) (slots : List (Option Group))
     (written before now : List ℕ) (group : Option Group) (kept : Option Kept) (seen : Showing) (whys : Option Whys)
-    (s : ViewsStandAt keeps n why t v slots written) → ReceiverAt t after.receiver (group ∷ slots)
+    (s : ViewsStandAt n why t v slots written) → ReceiverAt t after.receiver (group ∷ slots)
     → IsShowing t.dwell t.first (counted t (heard_of t.programme (group ∷ slots))) seen
-    → (displayed n (seen ∷ s.showings) ≡ after_slot kept (displayed n s.showings) seen.view)
-    × (keeps ≡ true → CountsOf after.shown.keeping (seen ∷ s.showings))
-    → SayWhys why t (group ∷ slots) whys → after.says_why ≡ v.says_why → after.slot ≡ v.slot + 1
+    → CountsOn v.shown.keeping after.shown.keeping kept seen s.showings → SayWhys why t (group ∷ slots) whys → after.says_why ≡ v.says_why → after.slot ≡ v.slot + 1
     → after.shown.keeping.keep ≡ v.shown.keeping.keep
     → view_kept after.shown.view ≡ after_slot kept (view_kept v.shown.view) seen.view
     → now ≡ before ++ change (slot_prefix v.slot) whys (view_kept v.shown.view) (view_kept after.shown.view)
     → (added : List ℕ) × (now ≡ before ++ added)
-    × ViewsStandAt keeps n why t after (group ∷ slots) (written ++ added)
-slot_given keeps why n t v after slots written before now group kept seen whys s receiver is shows say says slot keep
+    × ViewsStandAt n why t after (group ∷ slots) (written ++ added)
+slot_given why n t v after slots written before now group kept seen whys s receiver is shows say says slot keep
     shown gave =
     let here : view_kept after.shown.view ≡ displayed n (seen ∷ s.showings) =
-    (let was = s.shown in let newest = s.display in let next = shows.0 in grind (arith)) in (
+    (let was = s.shown in let newest = s.display in let next = rw s.keep at shows.shows in grind (arith)) in (
       _,
       gave,
       record {
@@ -74,8 +71,7 @@ slot_given keeps why n t v after slots written before now group kept seen whys s
         showings = seen ∷ s.showings;
         heard = (is, s.heard);
         keep = keep ∙ s.keep;
-        counts = shows.1;
-        none = s.none;
+        counts = shows.counts;
         displays = record { view = displayed n (seen ∷ s.showings); whys = whys } ∷ s.displays;
         are = (
           record {
@@ -103,53 +99,38 @@ unchanged t slots group showings are stays = record {
   name = refl;
 }
 
--- what a slot changes on the display, and the counts after it
-pub shows_on : (keeps why : Bool) (n : ℕ) (t : Tuning) (v : ViewLines) (counts : Keeping)
-    (slots : List (Option Group)) (written : List ℕ) (group : Option Group) (kept : Option Kept) (is_changed : Bool)
-    (s : ViewsStandAt keeps n why t v slots written) (seen : Showing)
-    → IsShowing t.dwell t.first (counted t (heard_of t.programme (group ∷ slots))) seen
-    → (is_changed ≡ false → GoesOn (newest_showing s.showings) seen)
-    → ShowsChange keeps v.shown.keeping counts kept is_changed t (heard_of t.programme (group ∷ slots))
-    → (displayed n (seen ∷ s.showings) ≡ after_slot kept (displayed n s.showings) seen.view)
-    × (keeps ≡ true → CountsOf counts (seen ∷ s.showings))
-shows_on keeps why n t v counts slots written group kept is_changed s seen is goes shows =
-    subst (λ (m : ℕ). (displayed m (seen ∷ s.showings) ≡ after_slot kept (displayed m s.showings) seen.view)
-    × (keeps ≡ true → CountsOf counts (seen ∷ s.showings))) s.keep
-    (shows seen s.showings (is, s.heard) goes s.counts (λ e. s.keep ∙ s.none e))
-
 -- a slot has reasons, whether the lines say them or not
 some_whys : (why : Bool) (t : Tuning) (input : List (Option Group)) → (whys : Option Whys) × SayWhys why t input whys
 some_whys false t input = (None, refl)
 some_whys true t input = (Some (whys_of t (heard_of t.programme input)), refl)
 
 -- a slot that shows what the one before it showed
-pub slot_same : (keeps why : Bool) (n : ℕ) (t : Tuning) (v after : ViewLines) (slots : List (Option Group))
-    (written before : List ℕ) (group : Option Group) (s : ViewsStandAt keeps n why t v slots written)
+pub slot_same : (why : Bool) (n : ℕ) (t : Tuning) (v after : ViewLines) (slots : List (Option Group))
+    (written before : List ℕ) (group : Option Group) (s : ViewsStandAt n why t v slots written)
     → ReceiverAt t after.receiver (group ∷ slots)
     → ((view : ShownView) → IsView t slots view → IsView t (group ∷ slots) view)
     → ((seen : Showing)
     → IsShowing t.dwell t.first (counted t (heard_of t.programme (group ∷ slots))) seen
-    → (displayed n (seen ∷ s.showings) ≡ displayed n s.showings)
-    × (keeps ≡ true → CountsOf after.shown.keeping (seen ∷ s.showings)))
+    → CountsOn v.shown.keeping after.shown.keeping None seen s.showings)
     → after.says_why ≡ v.says_why → after.slot ≡ v.slot + 1 → after.shown.keeping.keep ≡ v.shown.keeping.keep
     → view_kept after.shown.view ≡ view_kept v.shown.view
     → (added : List ℕ) × (before ≡ before ++ added)
-    × ViewsStandAt keeps n why t after (group ∷ slots) (written ++ added)
-slot_same keeps why n t v after slots written before group s receiver stays shows says slot keep same =
+    × ViewsStandAt n why t after (group ∷ slots) (written ++ added)
+slot_same why n t v after slots written before group s receiver stays shows says slot keep same =
     let is = unchanged t slots group s.showings s.heard stays in
     let (whys, say) = some_whys why t (group ∷ slots) in
     let none = no_change (slot_prefix v.slot) whys (view_kept v.shown.view) in
-    slot_given keeps why n t v after slots written before before group None _ whys s receiver is (shows _ is) say says
+    slot_given why n t v after slots written before before group None _ whys s receiver is (shows _ is) say says
     slot keep same (let shown = same in let nothing = append-nil before in cc)
 
 -- ---- what the taker of `decode` takes, and what it has written at the end of a log
 
 -- a line that is a slot
-pub takes_slot : (keeps : Bool) (how : Decoding) (v after : ViewLines) (n m : ℕ) (w : Traffic) (before now : List ℕ)
+pub takes_slot : (how : Decoding) (v after : ViewLines) (n m : ℕ) (w : Traffic) (before now : List ℕ)
     (lines : List Line) (line : Line) (slot read : Option Group) → LineSays line (Slot slot)
-    → read ≡ exchanged_in n slot → GivesChange keeps v after read before now → m ≡ n
-    → HasTaken (HasDecoded keeps how v n) w before lines → HasTaken (HasDecoded keeps how after m) w now (line ∷ lines)
-takes_slot keeps how v after n m w before now lines line slot read says is gives kept has =
+    → read ≡ exchanged_in n slot → GivesChange v after read before now → m ≡ n
+    → HasTaken (HasDecoded how v n) w before lines → HasTaken (HasDecoded how after m) w now (line ∷ lines)
+takes_slot how v after n m w before now lines line slot read says is gives kept has =
     let (added, output, views) = gives how.keep how.says_why (tuning_of how) has.took.slots has.total has.took.views in
     record {
       total = _;
@@ -169,16 +150,16 @@ takes_slot keeps how v after n m w before now lines line slot read says is gives
     }
 
 -- a line that is skipped
-pub takes_skip : (keeps : Bool) (how : Decoding) (v after : ViewLines) (n m : ℕ) (w : Traffic) (output : List ℕ)
+pub takes_skip : (how : Decoding) (v after : ViewLines) (n m : ℕ) (w : Traffic) (output : List ℕ)
     (lines : List Line) (line : Line) → LineSays line Skip → after ≡ v → m ≡ n
-    → HasTaken (HasDecoded keeps how v n) w output lines → HasTaken (HasDecoded keeps how after m) w output (line ∷ lines)
-takes_skip keeps how v after n m w output lines line says views kept has = grind (arith)
+    → HasTaken (HasDecoded how v n) w output lines → HasTaken (HasDecoded how after m) w output (line ∷ lines)
+takes_skip how v after n m w output lines line says views kept has = grind (arith)
 
 -- the result of the run is that of `decode`
-pub decoded : (keeps : Bool) (how : Decoding) (v : ViewLines) (n reads : ℕ) (r w : Traffic)
-    (result : Result (Unit {0}) LogFault) → Runs (LinesWrite how) (LinesWrite how) (HasDecoded keeps how v n) ⊥ reads r w result
+pub decoded : (how : Decoding) (v : ViewLines) (n reads : ℕ) (r w : Traffic)
+    (result : Result (Unit {0}) LogFault) → Runs (LinesWrite how) (LinesWrite how) (HasDecoded how v n) ⊥ reads r w result
     → Decodes how reads r w result
-decoded keeps how v n reads r w result stops = grind arith
+decoded how v n reads r w result stops = grind arith
 
 -- ---- slots have one list of displays, so the bytes of a log write one output
 

@@ -1,5 +1,5 @@
 //! The engine of `decode`: the view of a receiver of a log.
-ghost use Rattle.std.specs.Prelude.{◌≡◌, ◌≤◌, ◌^◌, false};
+ghost use Rattle.std.specs.Prelude.{◌≤◌, ◌^◌};
 ghost use Rattle.rds_io.specs.Told.{traffic};
 ghost use Rattle.rds_log.specs.Decode.{Decodes};
 ghost use Rattle.rds_log.specs.LogWrites.{plain};
@@ -81,31 +81,8 @@ pub fn decode_with_notes<R: TellingRead, W: TellingWrite, N: News>(
         (traffic W.contents W.failures writer.old writer.new) result }
     ensures reads { MadeReads reads (R.reads reader.old) (R.reads reader.new) result }
 {
-    if decoding.keep == 0 {
-        decode_by::<false, _, _, _>(reader, writer, decoding, reads, notes, news)
-    } else {
-        decode_by::<true, _, _, _>(reader, writer, decoding, reads, notes, news)
-    }
-}
-
-/// Does the same with a decoder whose display keeps nothing, or may keep something.
-fn decode_by<const KEEPS: bool, R: TellingRead, W: TellingWrite, N: News>(
-    reader: &mut R,
-    writer: &mut W,
-    decoding: Decoding,
-    reads: u64,
-    notes: &mut LogNotes,
-    news: &mut N,
-) -> Result<(), LogFault>
-    requires reads { reads ≤ 2 ^ 32 }
-    requires keeps { KEEPS ≡ false → decoding.keep ≡ 0 }
-    ensures decodes { Decodes decoding reads
-        (traffic R.remaining R.failures reader.old reader.new)
-        (traffic W.contents W.failures writer.old writer.new) result }
-    ensures reads { MadeReads reads (R.reads reader.old) (R.reads reader.new) result }
-{
     *notes = LogNotes::new();
-    let mut decoder = Decoder::<KEEPS>::new(decoding);
+    let mut decoder = Decoder::new(decoding);
     let read = &mut notes.input.read;
     let result = run(reader, writer, &mut decoder, reads, read, news);
     notes.input.heard = decoder.heard;

@@ -1,14 +1,13 @@
 //! The lines of the views of a receiver of a log.
-ghost use Rattle.std.specs.Prelude.{◌≡◌, ◌≤◌, ◌<◌, ◌+◌, ◌-◌, ◌^◌, ◌++◌, [], Bool, None, false, length};
+ghost use Rattle.std.specs.Prelude.{◌≡◌, ◌≤◌, ◌<◌, ◌+◌, ◌-◌, ◌^◌, ◌++◌, [], length};
 ghost use Rattle.std.proofs.Common.{rules};
-ghost use Rattle.rds_receiver.specs.Receipts.{Tuning, heard_of};
+ghost use Rattle.rds_receiver.specs.Receipts.{Tuning};
 ghost use Rattle.rds_receiver.specs.Counts.{keeping};
 ghost use Rattle.rds_receiver.specs.Shown.{IsView, ShownView};
 ghost use Rattle.rds_receiver.specs.ReceiverAt.{ReceiverAt, WhereReceiverStands};
 ghost use Rattle.rds_view_lines.specs.KeptView.{view_kept};
 ghost use Rattle.rds_view_lines.specs.Output.{change};
 ghost use Rattle.rds_view_lines.specs.Part.{prefix_of};
-ghost use Rattle.rds_log.specs.Inside.ViewLines.{ShowsChange};
 ghost use Rattle.rds_log.specs.LogWrites.{LinesWrite, SayWhys};
 ghost use Rattle.rds_view_lines.specs.declared.change.TheConstants.{SLOT_ROOM};
 
@@ -38,8 +37,7 @@ impl ViewLines {
     pub(crate) fn new(receiver: Receiver, says_why: bool, keep: u16) -> ViewLines
         ensures count { result.slot ≡ 0 }
         ensures keep { result.shown.keeping.keep ≡ keep }
-        ensures stands { (keeps : Bool) (t : Tuning) → (keeps ≡ false → keep ≡ 0) → ReceiverAt t receiver []
-            → ViewsStandAt keeps keep says_why t result [] [] }
+        ensures stands { (t : Tuning) → ReceiverAt t receiver [] → ViewsStandAt keep says_why t result [] [] }
     {
         ViewLines {
             receiver,
@@ -52,22 +50,17 @@ impl ViewLines {
         }
     }
 
-    /// Handles the group of one slot, if one came, and appends the line of each changed part. `KEEPS` is false only if the
-    /// display keeps nothing: then a slot costs nothing more.
+    /// Handles the group of one slot, if one came, and appends the line of each changed part.
     #[inline(always)]
-    pub(crate) fn slot<const KEEPS: bool, const N: usize>(
-        &mut self,
-        group: Option<Blocks>,
-        lines: &mut Lines<N>,
-    )
+    pub(crate) fn slot<const N: usize>(&mut self, group: Option<Blocks>, lines: &mut Lines<N>)
         requires slots { self.old.slot < 2 ^ 64 - 1 }
         requires room { length lines.old + SLOT_ROOM ≤ N }
         ensures count { self.new.slot ≡ self.old.slot + 1 }
         ensures room { length lines.new ≤ length lines.old + SLOT_ROOM }
-        ensures change { GivesChange KEEPS self.old self.new group lines.old lines.new }
+        ensures change { GivesChange self.old self.new group lines.old lines.new }
     {
         let is_changed = self.receiver.slot_blocks(group);
-        let change = change_of::<KEEPS>(&mut self.shown.keeping, &self.receiver, is_changed);
+        let change = self.shown.keeping.slot(&self.receiver, is_changed);
         let Some(kept) = change else {
             self.slot += 1;
             return;
@@ -95,25 +88,6 @@ impl ViewLines {
     }
 }
 
-/// Returns what a slot changes on the display, or `None` if nothing. `is_changed` is what the receiver's slot returned.
-#[inline(always)]
-fn change_of<const KEEPS: bool>(
-    keeping: &mut Keeping,
-    receiver: &Receiver,
-    is_changed: bool,
-) -> Option<Kept>
-    ensures keep { keeping.new.keep ≡ keeping.old.keep }
-    ensures same { result ≡ None → is_changed ≡ false }
-    ensures shows { WhereReceiverStands receiver.now (λ t input.
-        ShowsChange KEEPS keeping.old keeping.new result is_changed t (heard_of t.programme input)) }
-{
-    if KEEPS {
-        keeping.slot(receiver, is_changed)
-    } else {
-        Kept::none_if(is_changed)
-    }
-}
-
 /// Appends the line of each part of a view that changed in this slot. Few slots change one, so the prefix is made here.
 // Cold path.
 #[inline(never)]
@@ -135,10 +109,9 @@ fn show_slot<const N: usize>(
     show(Prefix::Slot(slot), whys, kept, shown, receiver, lines);
 }
 
-/// Takes the lines of a log for `decode`, with the programmes of their groups. `KEEPS` is false only if the display keeps
-/// nothing.
+/// Takes the lines of a log for `decode`, with the programmes of their groups.
 #[derive(Drop)]
-pub(crate) struct Decoder<const KEEPS: bool> {
+pub(crate) struct Decoder {
     pub(crate) views: ViewLines,
     pi: u16,
     rtplus: TagGroup,
@@ -146,14 +119,13 @@ pub(crate) struct Decoder<const KEEPS: bool> {
     pub(crate) incomplete: IncompleteTexts,
 }
 
-impl<const KEEPS: bool> Decoder<KEEPS> {
+impl Decoder {
     ghost use Rattle.rds_log.specs.Inside.Decoder.{HasDecoded};
 
     /// Starts a log.
-    pub(crate) fn new(how: Decoding) -> Decoder<KEEPS>
-        requires { KEEPS ≡ false → how.keep ≡ 0 }
+    pub(crate) fn new(how: Decoding) -> Decoder
         ensures none { result.views.slot ≡ 0 }
-        ensures decoded { HasDecoded KEEPS how result.views result.rtplus [] [] }
+        ensures decoded { HasDecoded how result.views result.rtplus [] [] }
     {
         let receiver = Receiver::tuned(how.pi, how.dwell, how.window);
         Decoder {
@@ -166,7 +138,7 @@ impl<const KEEPS: bool> Decoder<KEEPS> {
     }
 }
 
-impl<const KEEPS: bool> TakesLines for Decoder<KEEPS> {
+impl TakesLines for Decoder {
     ghost use Rattle.rds_log.specs.Inside.Decoder.{HasDecoded, decoded_lines, decoded_part};
 
     type How = Decoding;
@@ -179,7 +151,7 @@ impl<const KEEPS: bool> TakesLines for Decoder<KEEPS> {
 
     ghost begins = { LinesWrite };
 
-    ghost took = { λ how it lines total. HasDecoded KEEPS how it.views it.rtplus lines total };
+    ghost took = { λ how it lines total. HasDecoded how it.views it.rtplus lines total };
 
     ghost done = { λ it. ⊥ };
 
@@ -204,7 +176,7 @@ impl<const KEEPS: bool> TakesLines for Decoder<KEEPS> {
                 self.heard.slot(self.pi, heard);
                 self.heard.lost(self.pi, lost, source);
                 self.incomplete.note(self.pi, self.views.slot, begun);
-                self.views.slot::<KEEPS, OUTPUT_ROOM>(read, output);
+                self.views.slot(read, output);
                 Ok(true)
             }
         }
@@ -212,9 +184,9 @@ impl<const KEEPS: bool> TakesLines for Decoder<KEEPS> {
 
     fn tell<N: News>(&self, _news: &mut N) {}
 
-    ghost meant = { λ how it lines total. decoded_lines KEEPS how it.views it.rtplus lines total };
+    ghost meant = { λ how it lines total. decoded_lines how it.views it.rtplus lines total };
 
-    ghost begun = { λ how it lines total. decoded_part KEEPS how it.views it.rtplus lines total };
+    ghost begun = { λ how it lines total. decoded_part how it.views it.rtplus lines total };
 
     ghost fits = { Prim.search rules };
 }
