@@ -1,18 +1,15 @@
 -- What the taker of `decode` takes, and what it has written at the end of a log.
 use Rattle.std.proofs.Common.{◌≡◌, ◌+◌, ◌++◌, ℕ, Bool, true, false, List, [], ◌∷◌, None, Option, Some, refl, ◌∙◌, arith}
-use Rattle.std.proofs.Common.{ap, ap₂, inl, inr, Result, subst, sym, ◌<◌, Ok, Err}
+use Rattle.std.proofs.Common.{ap, ap₂, inr, Result, sym, Ok, Err}
 use Rattle.std.proofs.lemmas.List.{append-nil}
 use Rattle.rds_block.specs.declared.group.Group.{Group}
-use Rattle.rds_receiver.specs.Confirmed.{counted}
-use Rattle.rds_receiver.specs.Counts.{CountsOn, after_slot}
-use Rattle.rds_receiver.specs.Kept.{AreShowings, IsShowing, Showing, displayed, newest_showing}
+use Rattle.rds_receiver.specs.Counts.{DisplayAt}
+use Rattle.rds_receiver.specs.Kept.{displayed}
 use Rattle.rds_receiver.specs.NotShown.{whys_of}
 use Rattle.rds_receiver.specs.Receipts.{Tuning, heard_of}
-use Rattle.rds_receiver.specs.Shown.{IsView, ShownView}
 use Rattle.rds_receiver.specs.ReceiverAt.{ReceiverAt}
-use Rattle.rds_receiver.specs.declared.keeping.Kept.{Kept}
 use Rattle.rds_receiver.specs.declared.why.Whys.{Whys}
-use Rattle.rds_receiver.proofs.Counting.{newest_is, same_showings, showing_with}
+use Rattle.rds_receiver.proofs.Counting.{same_showings}
 use Rattle.rds_view_lines.specs.NoChange.{no_change}
 use Rattle.rds_view_lines.specs.Output.{Display, change, slot_prefix, changes_of}
 use Rattle.rds_log.specs.LogWrites.{AreDisplays, IsDisplay, SayWhys, LinesWrite, tuning_of, LogWrites}
@@ -33,14 +30,8 @@ use Rattle.rds_lines.specs.declared.log_line.LogLine.TheVariants.{Skip, Slot}
 use Rattle.rds_io.specs.Alike.{WriteAlike}
 use Rattle.rds_lines.specs.OneLog.{same_lines, same_slots}
 use Rattle.rds_lines.proofs.Runs.{read_whole}
-use Rattle.rds_fields.specs.declared.message.Message.{Message}
-use Rattle.rds_audit.specs.AuditLaws.{WhatPassesAsARecordingIsSafe, WhatPassesIsSafe}
-use Rattle.rds_audit.specs.Recording.{judged_as}
-use Rattle.rds_audit.specs.Rules.{LogPasses}
 use Rattle.rds_audit.specs.declared.audit.AuditFault.{AuditFault}
-use Rattle.rds_audit.specs.declared.log_start.LogStart.{LogStart}
-use Rattle.rds_audit.specs.declared.text_form.TextForm.{TextForm}
-use Rattle.rds_log.specs.Audit.{IsSafe, SlotsAreSafe, SlotsFail, SlotsHaveNoPlans, SlotsPass}
+use Rattle.rds_log.specs.Audit.{SlotsAreSafe, SlotsFail, SlotsHaveNoPlans, SlotsPass}
 use Rattle.rds_log.specs.FaultList.{Audits, BeginsWithNoPlans, FindsFaults, Means}
 use Rattle.rds_log.specs.declared.audit_log.Auditing.{Auditing}
 use Rattle.rds_log.specs.declared.audit_log.Stop.{Stop}
@@ -50,54 +41,33 @@ use Rattle.rds_log.specs.declared.audit_log.Stop.TheVariants.{FirstFault, LogEnd
 
 -- a slot that was handled: its display, and the changes that it appends
 pub slot_given : (why : Bool) (n : ℕ) (t : Tuning) (v after : ViewLines) (slots : List (Option Group))
-    (written before now : List ℕ) (group : Option Group) (kept : Option Kept) (seen : Showing) (whys : Option Whys)
-    (s : ViewsStandAt n why t v slots written) → ReceiverAt t after.receiver (group ∷ slots)
-    → IsShowing t.dwell t.first (counted t (heard_of t.programme (group ∷ slots))) seen
-    → CountsOn v.shown.keeping after.shown.keeping kept seen s.showings → SayWhys why t (group ∷ slots) whys → after.says_why ≡ v.says_why → after.slot ≡ v.slot + 1
-    → after.shown.keeping.keep ≡ v.shown.keeping.keep
-    → view_kept after.shown.view ≡ after_slot kept (view_kept v.shown.view) seen.view
+    (written before now : List ℕ) (group : Option Group) (whys : Option Whys)
+    → ViewsStandAt n why t v slots written → ReceiverAt t after.receiver (group ∷ slots)
+    → DisplayAt n t after.shown.keeping (view_kept after.shown.view) (group ∷ slots)
+    → SayWhys why t (group ∷ slots) whys → after.says_why ≡ v.says_why → after.slot ≡ v.slot + 1
     → now ≡ before ++ change (slot_prefix v.slot) whys (view_kept v.shown.view) (view_kept after.shown.view)
     → (added : List ℕ) × (now ≡ before ++ added)
     × ViewsStandAt n why t after (group ∷ slots) (written ++ added)
-slot_given why n t v after slots written before now group kept seen whys s receiver is shows say says slot keep
-    shown gave =
-    let here : view_kept after.shown.view ≡ displayed n (seen ∷ s.showings) =
-    (let was = s.shown in let newest = s.display in let next = rw s.keep at shows.shows in grind (arith)) in (
-      _,
-      gave,
+slot_given why n t v after slots written before now group whys s receiver display say says slot gave = (
+  _,
+  gave,
+  record {
+    receiver = receiver;
+    says_why = says ∙ s.says_why;
+    display = display;
+    displays = record { view = view_kept after.shown.view; whys = whys } ∷ s.displays;
+    are = (
       record {
-        receiver = receiver;
-        says_why = says ∙ s.says_why;
-        showings = seen ∷ s.showings;
-        heard = (is, s.heard);
-        keep = keep ∙ s.keep;
-        counts = shows.counts;
-        displays = record { view = displayed n (seen ∷ s.showings); whys = whys } ∷ s.displays;
-        are = (
-          record {
-            view = record { showings = seen ∷ s.showings; are = (is, s.heard); shows = refl };
-            whys = say;
-          },
-          s.are,
-        );
-        slot = omega (arith, s.slot);
-        display = refl;
-        shown = here;
-        changes = (let number = s.slot in let view = s.shown in let bytes = s.changes in cc);
+        view = record { showings = display.showings; are = display.are; shows = display.shows };
+        whys = say;
       },
-    )
-
--- the end of a slot that changed no view
-unchanged : (t : Tuning) (slots : List (Option Group)) (group : Option Group) (showings : List Showing)
-    → AreShowings t (heard_of t.programme slots) showings
-    → ((view : ShownView) → IsView t slots view → IsView t (group ∷ slots) view)
-    → IsShowing t.dwell t.first (counted t (heard_of t.programme (group ∷ slots)))
-    (showing_with t.dwell t.first (counted t (heard_of t.programme (group ∷ slots))) (newest_showing showings).view)
-unchanged t slots group showings are stays = record {
-  view = stays (newest_showing showings).view (newest_is t (heard_of t.programme slots) showings are).view;
-  text = refl;
-  name = refl;
-}
+      s.are,
+    );
+    slot = omega (arith, s.slot);
+    shown = refl;
+    changes = (let number = s.slot in let view = s.shown in let bytes = s.changes in cc);
+  },
+)
 
 -- a slot has reasons, whether the lines say them or not
 some_whys : (why : Bool) (t : Tuning) (input : List (Option Group)) → (whys : Option Whys) × SayWhys why t input whys
@@ -106,22 +76,17 @@ some_whys true t input = (Some (whys_of t (heard_of t.programme input)), refl)
 
 -- a slot that shows what the one before it showed
 pub slot_same : (why : Bool) (n : ℕ) (t : Tuning) (v after : ViewLines) (slots : List (Option Group))
-    (written before : List ℕ) (group : Option Group) (s : ViewsStandAt n why t v slots written)
+    (written before : List ℕ) (group : Option Group) → ViewsStandAt n why t v slots written
     → ReceiverAt t after.receiver (group ∷ slots)
-    → ((view : ShownView) → IsView t slots view → IsView t (group ∷ slots) view)
-    → ((seen : Showing)
-    → IsShowing t.dwell t.first (counted t (heard_of t.programme (group ∷ slots))) seen
-    → CountsOn v.shown.keeping after.shown.keeping None seen s.showings)
-    → after.says_why ≡ v.says_why → after.slot ≡ v.slot + 1 → after.shown.keeping.keep ≡ v.shown.keeping.keep
-    → view_kept after.shown.view ≡ view_kept v.shown.view
+    → DisplayAt n t after.shown.keeping (view_kept after.shown.view) (group ∷ slots)
+    → after.says_why ≡ v.says_why → after.slot ≡ v.slot + 1 → view_kept after.shown.view ≡ view_kept v.shown.view
     → (added : List ℕ) × (before ≡ before ++ added)
     × ViewsStandAt n why t after (group ∷ slots) (written ++ added)
-slot_same why n t v after slots written before group s receiver stays shows says slot keep same =
-    let is = unchanged t slots group s.showings s.heard stays in
+slot_same why n t v after slots written before group s receiver display says slot same =
     let (whys, say) = some_whys why t (group ∷ slots) in
     let none = no_change (slot_prefix v.slot) whys (view_kept v.shown.view) in
-    slot_given why n t v after slots written before before group None _ whys s receiver is (shows _ is) say says
-    slot keep same (let shown = same in let nothing = append-nil before in cc)
+    slot_given why n t v after slots written before before group whys s receiver display say says slot
+    (let shown = same in let nothing = append-nil before in cc)
 
 -- ---- what the taker of `decode` takes, and what it has written at the end of a log
 

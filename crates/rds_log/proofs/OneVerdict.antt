@@ -1,5 +1,5 @@
 -- The bytes of a log have one answer of an audit.
-use Rattle.std.proofs.lemmas.Bool.Decides.{nat_tests, eqb_tells}
+use Rattle.std.proofs.lemmas.Bool.Decides.{eqb_tells}
 use Rattle.std.proofs.Common.{◌≡◌, ◌≢◌, ◌⊎◌, ◌<◌, ◌∙◌, ◌∷◌, [], ◌++◌, ℕ, List, Bool, true, false, Option, Some, Ok}
 use Rattle.std.proofs.Common.{append_assoc, ap, arith, inl, inr, length, refl, sym, All}
 use Rattle.std.specs.Io.KnownBytes.{Consumes}

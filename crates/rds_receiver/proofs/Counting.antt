@@ -1,25 +1,28 @@
 -- Lemmas: what a display counts follows from its slots.
-use Rattle.std.proofs.Common.{◌≡◌, ◌≢◌, ◌≤◌, ◌<◌, ◌+◌, ◌-◌, ◌==◌, ◌&&◌, ℕ, Bool, true, false, List, [], ◌∷◌, Option, Some, None, arith}
-use Rattle.std.proofs.Common.{zero, suc, refl, sym, ap, ap₂, ◌∙◌, if◌then◌else◌, is_some, map, not}
+use Rattle.std.proofs.Common.{◌≡◌, ◌≢◌, ◌<◌, ◌-◌, ◌==◌, ◌&&◌, ℕ, Bool, true, false, List, [], ◌∷◌, Option, Some, None, arith}
+use Rattle.std.proofs.Common.{zero, suc, refl, sym, ap₂, ◌∙◌, if◌then◌else◌, is_some, map, not}
 use Rattle.std.proofs.lemmas.Bool.Decides.{nat_tests}
 use Rattle.std.specs.Borrow.{Bor}
 use Rattle.std.specs.Prelude.{option_copied}
+use Rattle.rds_block.specs.declared.group.Group.{Group}
 use Rattle.rds_fields.specs.declared.message.Message.{Message}
 use Rattle.rds_assembly.specs.ServiceLaws.{no_name_of_none, no_text_of_none}
 use Rattle.rds_receiver.specs.Confirmed.{counted, counted_in}
-use Rattle.rds_receiver.specs.Counts.{CountsOf, CountsOn, ends, kept_stored}
-use Rattle.rds_receiver.specs.Counts.{ended_of, is_still, none_kept}
+use Rattle.rds_receiver.specs.Counts.{CountsOf, CountsOn, CountsSlot, DisplayAt, after_slot, ended_of, ends, is_still}
+use Rattle.rds_receiver.specs.Counts.{kept_stored, none_kept}
 use Rattle.rds_receiver.specs.Kept.{AreShowings, GoesOn, IsShowing, Last, Moment, Showing, beside, displayed, flag_of}
 use Rattle.rds_receiver.specs.Kept.{is_recent, kept, last, last_after, name_moment, newest_showing, text_moment}
 use Rattle.rds_receiver.specs.Kept.{with_text}
 use Rattle.rds_receiver.specs.KeptLemmas.{none_is_kept}
 use Rattle.rds_receiver.specs.OneView.{same_view_of}
-use Rattle.rds_receiver.specs.Receipts.{Tuning, name_fragment, text_fragment}
+use Rattle.rds_receiver.specs.Receipts.{Tuning, heard_of, name_fragment, text_fragment}
+use Rattle.rds_receiver.specs.ReceiverAt.{KeepsShowing, KeepsView, ReceiverAt}
 use Rattle.rds_receiver.specs.Run.{run_at}
-use Rattle.rds_receiver.specs.Shown.{ShownView, ShowsView}
+use Rattle.rds_receiver.specs.Shown.{IsView, ShownView, ShowsView}
 use Rattle.rds_receiver.specs.declared.keeping.Keeping.{Keeping}
 use Rattle.rds_receiver.specs.declared.keeping.Kept.{Kept}
 use Rattle.rds_receiver.specs.declared.keeping.StoredKept.{StoredKept}
+use Rattle.rds_receiver.specs.declared.receiver.Receiver.{Receiver}
 
 -- ---- one service
 
@@ -264,3 +267,40 @@ same_showings t [] [] (u ∷ other) p q = absurd q
 same_showings t [] (s ∷ showings) other p q = absurd p
 same_showings t (h ∷ before) [] other p q = absurd p
 same_showings t (h ∷ before) (s ∷ showings) [] p q = absurd q
+
+-- ---- the display
+
+-- one more slot, after which the receiver has this view
+pub display_on : (n : ℕ) (t : Tuning) (r after_r : Receiver) (old new : Keeping) (is_changed : Bool)
+    (change : Option Kept) (before after now : ShownView) (group : Option Group) (input : List (Option Group))
+    → DisplayAt n t old before input → ReceiverAt t r input → ReceiverAt t after_r (group ∷ input)
+    → (is_changed ≡ false → KeepsShowing r group) → CountsSlot after_r old new is_changed change
+    → new.keep ≡ old.keep → IsView t (group ∷ input) now → after ≡ after_slot change before now
+    → DisplayAt n t new after (group ∷ input)
+display_on n t r after_r old new is_changed change before after now group input d stood stands goes counts keep view
+    shows =
+    let heard = counted t (heard_of t.programme (group ∷ input)) in
+    let seen = showing_with t.dwell t.first heard now in
+    let is : IsShowing t.dwell t.first heard seen = record { view = view; text = refl; name = refl } in
+    let newest = newest_is t (heard_of t.programme input) d.showings d.are in
+    let on = counts t (group ∷ input) stands seen d.showings is (λ calm. goes calm t input stood _ seen newest is)
+    d.counts in
+    record {
+      showings = seen ∷ d.showings;
+      are = (is, d.are);
+      keep = keep ∙ d.keep;
+      counts = on.counts;
+      shows = (let next = on.shows in let same = d.keep in let was = d.shows in grind (arith));
+    }
+
+-- one more slot that changed nothing
+pub display_stays : (n : ℕ) (t : Tuning) (r after_r : Receiver) (old new : Keeping) (is_changed : Bool)
+    (view : ShownView) (group : Option Group) (input : List (Option Group))
+    → DisplayAt n t old view input → ReceiverAt t r input → ReceiverAt t after_r (group ∷ input)
+    → KeepsView r group → KeepsShowing r group → CountsSlot after_r old new is_changed None
+    → new.keep ≡ old.keep → DisplayAt n t new view (group ∷ input)
+display_stays n t r after_r old new is_changed view group input d stood stands stays goes counts keep =
+    let was = (newest_showing d.showings).view in
+    let newest = newest_is t (heard_of t.programme input) d.showings d.are in
+    display_on n t r after_r old new is_changed None view view was group input d stood stands (λ calm. goes) counts
+    keep (stays was t input stood newest.view) refl

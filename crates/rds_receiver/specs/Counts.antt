@@ -1,12 +1,17 @@
 -- What a display counts that keeps texts and names, as plain numbers, and what a slot changes on it. Lists have the
 -- newest first.
-use Rattle.std.specs.Prelude.{◌≡◌, ◌+◌, ◌-◌, ◌==◌, ◌||◌, ℕ, Bool, true, false, List, [], ◌∷◌, Option, None, Some}
+use Rattle.std.specs.Prelude.{◌≡◌, ◌+◌, ◌-◌, ◌==◌, ◌||◌, ℕ, Bool, true, false, List, ◌∷◌, Option, None, Some}
 use Rattle.std.specs.Prelude.{if◌then◌else◌, map, nat_le, not}
-use Rattle.rds_receiver.specs.Kept.{Last, Showing, displayed, last, name_moment, text_moment}
+use Rattle.rds_block.specs.declared.group.Group.{Group}
+use Rattle.rds_receiver.specs.Kept.{AreShowings, GoesOn, IsShowing, Last, Showing, displayed, last, name_moment}
+use Rattle.rds_receiver.specs.Kept.{newest_showing, text_moment}
+use Rattle.rds_receiver.specs.Receipts.{Tuning, heard_of}
+use Rattle.rds_receiver.specs.ReceiverAt.{WhatItHeard}
 use Rattle.rds_receiver.specs.Shown.{ShownView}
 use Rattle.rds_receiver.specs.declared.keeping.Keeping.{Keeping}
 use Rattle.rds_receiver.specs.declared.keeping.Kept.{Kept}
 use Rattle.rds_receiver.specs.declared.keeping.StoredKept.{StoredKept}
+use Rattle.rds_receiver.specs.declared.receiver.Receiver.{Receiver}
 
 abbrev pub flag_code : Bool → ℕ
 flag_code false = 0
@@ -55,6 +60,22 @@ after_slot (Some kept) before now = keeping kept before now
 pub record CountsOn (old new : Keeping) (change : Option Kept) (now : Showing) (before : List Showing) : Type 0 where
   pub counts : CountsOf new (now ∷ before)
   pub shows : displayed old.keep (now ∷ before) ≡ after_slot change (displayed old.keep before) now.view
+
+-- the counts follow after one more slot of the receiver, and this changes on the display. Without a change of what the
+-- receiver shows, the end of the slot before goes on
+abbrev pub CountsSlot : Receiver → Keeping → Keeping → Bool → Option Kept → Type 0
+CountsSlot after old new is_changed change =
+    WhatItHeard after (λ m first heard. (now : Showing) (before : List Showing) → IsShowing m first heard now
+    → (is_changed ≡ false → GoesOn (newest_showing before) now) → CountsOf old before
+    → CountsOn old new change now before)
+
+-- a display that keeps for n slots counts so and shows this view, at the end of an input of its receiver
+pub record DisplayAt (n : ℕ) (t : Tuning) (k : Keeping) (view : ShownView) (input : List (Option Group)) : Type 0 where
+  pub showings : List Showing
+  pub are : AreShowings t (heard_of t.programme input) showings
+  pub keep : k.keep ≡ n
+  pub counts : CountsOf k showings
+  pub shows : view ≡ displayed n showings
 
 -- a value is still kept, or it has ended; neither if none was kept
 abbrev pub is_still : Option Bool → Bool

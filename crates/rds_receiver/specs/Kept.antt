@@ -2,7 +2,7 @@
 -- goes on showing the last one as it was, for up to n slots; a text with its item bits and tags. It ends earlier if the
 -- receiver holds a segment with the other flag: then the next text, or the next name, is on its way. Lists have the
 -- newest first.
-use Rattle.std.specs.Prelude.{◌≡◌, ◌≤◌, ◌+◌, ◌++◌, [], ◌∷◌, ℕ, Bool, true, false, List, Option, Some, None, All, IfSome}
+use Rattle.std.specs.Prelude.{◌≡◌, ◌≤◌, ◌+◌, ◌++◌, [], ◌∷◌, ℕ, Bool, true, false, List, Option, Some, None, All}
 use Rattle.std.specs.Prelude.{if◌then◌else◌, is_some, length, map, nat_le, not}
 use Rattle.rds_fields.specs.declared.message.Message.{Message}
 use Rattle.rds_receiver.specs.Confirmed.{counted}

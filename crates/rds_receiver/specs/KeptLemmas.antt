@@ -1,10 +1,9 @@
 -- Lemmas: what a display keeps was shown, at most as many slots ago as it keeps. So it has what each value shown has.
-use Rattle.std.proofs.Common.{◌≡◌, ◌≤◌, ◌+◌, ◌++◌, ℕ, zero, suc, Bool, true, false, List, [], ◌∷◌, Option, Some, None}
-use Rattle.std.proofs.Common.{IfSome, is_some, length, refl, ap, arith}
+use Rattle.std.proofs.Common.{◌≡◌, ◌≤◌, ℕ, suc, false, List, [], ◌∷◌, Option, Some, None}
+use Rattle.std.proofs.Common.{is_some, refl, ap, arith}
 use Rattle.std.proofs.lemmas.Bool.Decides.{nat_tests}
-use Rattle.std.proofs.lemmas.List.{length-append}
 use Rattle.std.proofs.lemmas.List.Elements.{All-cons, All-nil}
-use Rattle.rds_receiver.specs.Kept.{Last, Moment, WasShown, is_other, is_recent, kept, last, last_after, or_before}
+use Rattle.rds_receiver.specs.Kept.{Last, Moment, WasShown, is_recent, kept, last, last_after, or_before}
 
 -- shown in this slot
 shown_now : {X : Type 0} (n : ℕ) (now : Moment X) (before : List (Moment X)) (x : X) → now.shown ≡ Some x

@@ -1,7 +1,7 @@
 //! For how long a display keeps a text or a name that its receiver does not show any more.
 ghost use Rattle.std.specs.Prelude.{◌≡◌, ◌&&◌, ◌<◌, ◌-◌, ◌==◌, [], ℕ, Bool, List, Option, false, if◌then◌else◌, not};
 ghost use Rattle.rds_fields.specs.declared.message.Message.{Message};
-ghost use Rattle.rds_receiver.specs.Counts.{CountsOf, CountsOn, ended_of, ends, kept_stored};
+ghost use Rattle.rds_receiver.specs.Counts.{CountsOf, CountsOn, CountsSlot, ended_of, ends, kept_stored};
 ghost use Rattle.rds_receiver.specs.Kept.{GoesOn, IsShowing, Last, Showing, is_recent, last_after, newest_showing};
 ghost use Rattle.rds_receiver.specs.ReceiverAt.{WhatItHeard};
 
@@ -141,9 +141,7 @@ impl Keeping {
     pub fn slot(&mut self, receiver: &Receiver, is_changed: bool) -> Option<Kept>
         ensures keep { self.new.keep ≡ self.old.keep }
         ensures same { result ≡ Option.None → is_changed ≡ false }
-        ensures counts { WhatItHeard receiver.now (λ m first heard. (now : Showing) (before : List Showing)
-            → IsShowing m first heard now → (is_changed ≡ false → GoesOn (newest_showing before) now)
-            → CountsOf self.old before → CountsOn self.old self.new result now before) }
+        ensures counts { CountsSlot receiver.now self.old self.new is_changed result }
     {
         if is_changed {
             return Some(self.look(receiver));

@@ -1,9 +1,8 @@
 -- The state of the lines of views after a list of slots, the newest first, and what a slot adds.
 use Rattle.std.specs.Prelude.{◌≡◌, ◌++◌, ◌∷◌, ℕ, Bool, List, Option, length}
 use Rattle.rds_block.specs.declared.group.Group.{Group}
-use Rattle.rds_receiver.specs.Counts.{CountsOf}
-use Rattle.rds_receiver.specs.Kept.{AreShowings, Showing, displayed}
-use Rattle.rds_receiver.specs.Receipts.{Tuning, heard_of}
+use Rattle.rds_receiver.specs.Counts.{DisplayAt}
+use Rattle.rds_receiver.specs.Receipts.{Tuning}
 use Rattle.rds_receiver.specs.ReceiverAt.{ReceiverAt}
 use Rattle.rds_view_lines.specs.Output.{Display, changes_of, newest}
 use Rattle.rds_log.specs.LogWrites.{AreDisplays}
@@ -15,14 +14,10 @@ pub record ViewsStandAt (n : ℕ) (why : Bool) (t : Tuning) (v : ViewLines) (slo
     (written : List ℕ) : Type 0 where
   pub receiver : ReceiverAt t v.receiver slots
   pub says_why : v.says_why ≡ why
-  pub showings : List Showing
-  pub heard : AreShowings t (heard_of t.programme slots) showings
-  pub keep : v.shown.keeping.keep ≡ n
-  pub counts : CountsOf v.shown.keeping showings
+  pub display : DisplayAt n t v.shown.keeping (view_kept v.shown.view) slots
   pub displays : List Display
   pub are : AreDisplays n why t slots displays
   pub slot : v.slot ≡ length displays
-  pub display : newest displays ≡ displayed n showings
   pub shown : view_kept v.shown.view ≡ newest displays
   pub changes : written ≡ changes_of displays
 

@@ -5,14 +5,16 @@ pub returns-clause-stands : goal.returns-clause-stands
 returns-clause-stands c t begins = record {
   receiver = begins;
   says_why = refl;
-  showings = [];
-  heard = tt;
-  keep = c.new-2.ensures.keep;
-  counts = c.new-2.ensures.starts;
+  display = record {
+    showings = [];
+    are = tt;
+    keep = c.new-2.ensures.keep;
+    counts = c.new-2.ensures.starts;
+    shows = c.new.ensures;
+  };
   displays = [];
   are = tt;
   slot = refl;
-  display = refl;
   shown = c.new.ensures;
   changes = refl;
 }

@@ -1,7 +1,7 @@
 use Rattle.std.proofs.Common.{◌≡◌, ◌∙◌, arith, false}
 use Rattle.rds_receiver.specs.Counts.{kept_stored, none_kept}
 use Rattle.rds_receiver.specs.Kept.{last_after}
-use Rattle.rds_receiver.proofs.Counting.{ended, none_recent, over}
+use Rattle.rds_receiver.proofs.Counting.{ended, over}
 use Rattle.rds_receiver.proofs.keeping.StoredKept.slot.Goals as goal
 use Rattle.rds_receiver.proofs.keeping.StoredKept.slot.Goals.{then-left-eq0-via-else-left-eq0+then-is_ended_by}
 use Rattle.rds_receiver.proofs.keeping.StoredKept.slot.Goals.{then-left-eq0-via-then-left-eq0}
