@@ -5,6 +5,7 @@ pub mod Entries
 pub mod Least
 pub mod HeldWhole
 pub mod Safety
+pub mod Kept
 pub mod FlagSafety
 pub mod FlagRuns
 pub mod WorkedRows

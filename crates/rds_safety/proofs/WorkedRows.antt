@@ -1,6 +1,6 @@
 -- Worked examples of the definitions of safety, calculated by hand. Lists have the newest first.
 use Rattle.std.proofs.Common.{◌≡◌, ◌+◌, ◌<◌, ◌≤◌, ℕ, true, false, List, [], ◌∷◌, ◌++◌, take, drop, Option, Some, None}
-use Rattle.std.proofs.Common.{refl, inl, inr, arith, replicate}
+use Rattle.std.proofs.Common.{refl, inl, inr, arith, length, replicate, Bool}
 use Rattle.rds_fields.specs.declared.message.Message.{Message}
 use Rattle.rds_fields.specs.declared.message.Message.TheVariants.{Text}
 use Rattle.rds_encoder.specs.Entries.{Entry, SetText, Tick, text_moves}
@@ -9,7 +9,9 @@ use Rattle.rds_encoder.specs.Sent.{sent_log}
 use Rattle.rds_receiver.specs.Receipts.{Segment, text_fragment}
 use Rattle.rds_safety.specs.FlagAlone.{IsNews, run_by_flag}
 use Rattle.rds_safety.specs.Late.{CameFrom, HasEntry, Input, IsHeardLate, IsHeardOnTime}
-use Rattle.rds_safety.specs.Safe.{NamesPiece, RunWasOnAir}
+use Rattle.rds_safety.specs.Kept.{HasTextOf, ListensFrom, WasOnAir, WasSafe, displayed_by}
+use Rattle.rds_safety.specs.Plans.{Plans}
+use Rattle.rds_safety.specs.Safe.{Listener, NamesPiece, RunWasOnAir}
 use Rattle.rds_safety.specs.Source.{IsSource, text_run}
 use Rattle.rds_safety.proofs.Entries.{before_end, nothing_heard, one_more}
 
@@ -250,3 +252,67 @@ other_is_news = record { filled = λ none. (cc); new = new }
     new : (j : ℕ) (a : Broadcast) → HasNumber first_then_other_then_first j a → j < 1 → 1 ≤ j + 2 → a.flag ≡ true
         → a.bytes ≡ other_song → ⊥
     new j a p before near flag bytes = grind arith
+
+-- ---- what a display keeps
+
+-- the first song was on air up to slot 11: within 4 slots in slot 14, and not in slot 15
+first_in_14 : WasOnAir 4 14 (songs 20) first_song
+first_in_14 = record {
+  number = 0;
+  broadcast = first_broadcast;
+  planned = inr (inr (inl (refl, refl)));
+  bytes = refl;
+  slot = 11;
+  covers = omega arith;
+  past = omega arith;
+  recent = omega arith;
+}
+
+first_in_15 : WasOnAir 4 15 (songs 20) first_song → ⊥
+first_in_15 w = by w.number w.broadcast w.planned w.covers w.bytes
+  where
+    by : (n : ℕ) (b : Broadcast) → HasNumber (songs 20) n b → Covers b w.slot → b.bytes ≡ first_song → ⊥
+    by n b planned covers e = (let recent = w.recent in let past = w.past in grind arith)
+
+-- the mix of two songs never was
+mix_never_was : WasOnAir 100 20 (songs 20) mixed_song → ⊥
+mix_never_was w = by w.number w.broadcast w.planned w.bytes
+  where
+    by : (n : ℕ) (b : Broadcast) → HasNumber (songs 20) n b → b.bytes ≡ mixed_song → ⊥
+    by n b planned e = grind arith
+
+-- a receiver that shows this
+abbrev shows : Option (List ℕ) → Option (Bool × Bool) → Listener
+shows text item = record {
+  input = heard_in_20;
+  view = record { text = text; name = None; item = item; one = None; two = None };
+}
+
+-- with n = 1 the display shows the song a slot later, and with n = 0 it does not
+song_kept : (displayed_by 4 1 (shows None None ∷ shows (Some first_song) None ∷ [])).text ≡ Some first_song
+song_kept = refl
+
+song_dropped : (displayed_by 4 0 (shows None None ∷ shows (Some first_song) None ∷ [])).text ≡ None
+song_dropped = refl
+
+-- what was shown two slots before is too old for n = 1
+too_old : (d m : ℕ) (plans : Plans) (log : List (Option Message))
+    → WasSafe d m 1 plans log (shows None None ∷ shows None None ∷ shows (Some first_song) None ∷ [])
+    (λ v. v.text ≡ Some first_song) → ⊥
+too_old d m plans log w = by w.since w.at w.before w.all w.few w.showed
+  where
+    by : (since : List Listener) (at : Listener) (before : List Listener)
+        → shows None None ∷ shows None None ∷ shows (Some first_song) None ∷ [] ≡ since ++ at ∷ before
+        → length since ≤ 1 → at.view.text ≡ Some first_song → ⊥
+    by [] at before all few showed = grind arith
+    by (x ∷ []) at before all few showed = grind arith
+    by (x ∷ y ∷ since) at before all few showed = omega (arith, few)
+
+-- the text with the item bits of another view is another one
+other_bits : HasTextOf (shows (Some first_song) (Some (true, true))).view first_song (shows (Some first_song) None).view → ⊥
+other_bits has = (let bits = has.item in cc)
+
+-- no receiver has heard in two slots what it heard in one
+heard_twice : (log : List (Option Message)) → ListensFrom 0 4 log (shows None None ∷ shows None None ∷ []) → ⊥
+heard_twice log listens =
+    (let now = listens.0.now in let before = listens.1.0.now in omega (arith, now, before))

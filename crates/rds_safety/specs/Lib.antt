@@ -11,6 +11,7 @@ pub mod Near
 pub mod Confirmed
 pub mod Laws
 pub mod ConfirmedLaws
+pub mod Kept
 pub mod FlagAlone
 pub mod FlagLaws
 -- Lemmas that crates above use.

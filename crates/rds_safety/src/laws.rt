@@ -14,7 +14,8 @@ ghost use Rattle.rds_safety.specs.Laws.{LawfulIsLawfulPadded, LawfulPlansAreSafe
 ghost use Rattle.rds_safety.specs.Laws.{LawfulPlansAreSafeForSlowClocksAs, LawfulPlansAreSafeNearAs};
 ghost use Rattle.rds_safety.specs.Laws.{NoSlotLateIsOnTime, OnTimeIsNoSlotLate, OneSlotLessMixes};
 ghost use Rattle.rds_safety.specs.Laws.{PlanLaws, TheTrueClockIsNoSlotLate};
-ghost use Rattle.rds_safety.specs.Lawful.{padded_texts};
+ghost use Rattle.rds_safety.specs.Kept.{WhatIsKeptWasSafe};
+ghost use Rattle.rds_safety.specs.Lawful.{padded_texts, texts};
 ghost use Rattle.rds_safety.specs.ConfirmedLaws.{LawfulPlansAreSafeConfirmed};
 ghost use Rattle.rds_safety.specs.ConfirmedLaws.{WhoConfirmsListensNear};
 ghost use Rattle.rds_safety.specs.ConfirmedLaws.{WhoHearsBothSegmentsTwiceShowsTheName};
@@ -134,3 +135,14 @@ pub fn the_flag_alone_is_a_long_dwell()
     ensures heard { TheFlagAloneIsADwellWhileHeard }
     ensures long { TheFlagAloneIsALongDwell }
 {}
+
+/// States that a display that keeps a text with its tags, or a name, for N slots is safe, if no group comes more than K
+/// slots late, and the plans are lawful for M + K. Its receiver showed what it shows safely, at most N slots before. So each
+/// text and name was on air within the last M + K + N slots.
+pub fn what_is_kept_was_safe()
+    ensures late { WhatIsKeptWasSafe texts }
+    ensures padded { WhatIsKeptWasSafe padded_texts }
+{
+    safe_by_plans();
+    safe_by_padded_plans();
+}
