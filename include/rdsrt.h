@@ -33,7 +33,8 @@
  * gives high << 8 | low.
  *
  * STATIONS. A receiver takes the groups of one PI, those whose first block is that number, and ages in all other slots. If
- * you do not know the PI, take the first block of two groups that agree. When you tune to another PI, call _init again.
+ * you do not know the PI, take the first block of two groups that agree. When you tune to another PI, call _init again,
+ * of the receiver and of its display.
  *
  * THE DWELL. A receiver drops a text if no part of it arrived for M slots, its dwell. The program rdsrt has M = 128 by
  * default, about 11 s. The station needs the same M or a larger one, and spaces its texts by M slots. Then no text or
@@ -42,6 +43,11 @@
  * + K.
  * The encoder here is silent for M + K slots after a start, and keeps each text for 2 (M + K), so that tags fit.
  * A receiver works with any station. If the station keeps no dwell, texts can be mixed, as in every other receiver.
+ *
+ * KEEPING. In a loss of M slots or more, such as a long tunnel, a receiver drops the text. A display that keeps
+ * (rdsrt_display_slot) shows it for up to N more slots. A text that was whole never becomes a mix, only older: it was on
+ * air within the last M + K + N slots. Take N = 685 (60 s) for what a listener sees. A program that acts on tags asks
+ * the receiver (rdsrt_receiver_view): a kept tag can be of an item that is over.
  *
  * BITS. The guarantee needs groups that are whole and unchanged. Give a receiver no group in which your decoder
  * corrected bits. If it corrects bits, make the receiver with rdsrt_receiver_init_confirming. It then shows only what it
@@ -54,7 +60,8 @@
  * call at the same time on different structs.
  *
  * AFTER A LOSS OF POWER. A saved receiver does not know how long the pause was. End as many slots without a group as the
- * pause had, or more. If you do not know, call _init. A receiver that leaves out the pause can show a mix. For an encoder
+ * pause had, or more. If you do not know, call _init. A receiver that leaves out the pause can show a mix. Save a display
+ * and its receiver together, and end these slots with rdsrt_display_slot, or call both _init. For an encoder
  * call _init: the guarantee holds for restarts. To go on without the silence, save the struct after each accepted text and
  * name, and before the next rdsrt_encoder_tick: first save, then send. This is tested, and not proved. Do so only if you
  * set no tags: after a pause of M + K slots saved tags can come too early.
@@ -72,6 +79,7 @@
  *     rdsrt_receiver_slot              256  192    rdsrt_audit_slot                 352  352
  *     rdsrt_receiver_view              256  224    rdsrt_audit_all_faults           384  416
  *     rdsrt_receiver_held               32   32    rdsrt_audit_passed                32   32
+ *     rdsrt_display_init                32   32    rdsrt_display_slot               320  320
  *     rdsrt_slot_time                   32   32    rdsrt_audit_texts                 32   32
  *     rdsrt_time_in                    160  128    rdsrt_audit_names                 32   32
  *     rdsrt_lost_slots                  32   32    rdsrt_audit_texts_turn_the_flag   32   32
@@ -92,7 +100,8 @@
  *
  * WE PROVE for every call (law: rds_ffi rdsrt_receiver_slot, clauses few, kept, stands):
  *  - Whatever bytes a struct or an array holds, the call is memory-safe and returns, and it returns no length or place
- *    beyond its buffer. It returns only the codes that its comment lists. An error leaves every struct as it was.
+ *    beyond its buffer (a display can keep one that you wrote into it). It returns only the codes that its comment lists.
+ *    An error leaves every struct as it was.
  *  - If _init made the struct and only these calls wrote it since, every answer is the one of DEFINITIONS.md for
  *    all calls since the _init. If anybody else wrote it, we promise nothing about texts, groups and verdicts.
  */
@@ -107,7 +116,7 @@ extern "C" {
 #endif
 
 /* The number of this interface. It changes with every size, offset, code or call below. */
-#define RDSRT_ABI 9
+#define RDSRT_ABI 10
 
 /* The version of this header. rdsrt_version() returns the version of the linked library. */
 #define RDSRT_VERSION_MAJOR 0
@@ -127,8 +136,8 @@ struct rdsrt_version rdsrt_version(void);
 
 /* The codes that calls return. RDSRT_OK, RDSRT_CHANGED and RDSRT_SENT are not errors. */
 enum rdsrt_code {
-    RDSRT_OK = 0,                  /* done; receiver: the view is the same; tick: nothing to send */
-    RDSRT_CHANGED = 1,             /* receiver: the view may have changed */
+    RDSRT_OK = 0,                  /* done; receiver, display: the view is the same; tick: nothing to send */
+    RDSRT_CHANGED = 1,             /* receiver, display: the view may have changed */
     RDSRT_SENT = 1,                /* tick: there is a group to send */
     RDSRT_BAD_ARGUMENT = 2,        /* a number is out of range */
     RDSRT_SILENT = 3,              /* refused: the encoder is silent after its start, for `number` more slots */
@@ -193,6 +202,10 @@ struct rdsrt_view {
     struct rdsrt_tag tag1, tag2;
 };
 
+/* A display that keeps the last text and the last name of its receiver. `view` is what it shows. Only the library reads
+ * and writes the other numbers. */
+struct rdsrt_display { struct rdsrt_view view; uint16_t own_[5]; };
+
 /* The text and the name that an encoder has on air. */
 struct rdsrt_on_air { struct rdsrt_text text; struct rdsrt_name name; };
 
@@ -242,6 +255,22 @@ struct rdsrt_held { struct rdsrt_segments text, name; };
  * segments: the view has it once it is complete. */
 void rdsrt_receiver_held(const struct rdsrt_receiver *receiver, struct rdsrt_held *held);
 
+/* ---- A display that keeps the last text ---- */
+
+/* Makes a display that shows nothing, of a receiver that has received nothing yet. Call it with each _init of the
+ * receiver. keep: N, for how many slots the display goes on showing what the receiver dropped. 0: it shows what the
+ * receiver shows. */
+void rdsrt_display_init(struct rdsrt_display *display, uint16_t keep);
+
+/* Ends a slot of the receiver, in place of rdsrt_receiver_slot, and of its display. Take the same receiver in each call.
+ * After the receiver drops a text, the display goes on showing it, with its tags and item bits as they were, for up to N
+ * slots. It stops before if the receiver shows another text, or holds a segment with the other A/B flag: then a new text
+ * is on its way. It does so with the name by itself. If the receiver shows a text or a name, the display shows the same.
+ * Returns RDSRT_CHANGED if display->view may have changed, RDSRT_OK if it did not, and RDSRT_BAD_ARGUMENT for a count
+ * other than 0 and 4: then no slot has ended. */
+uint32_t rdsrt_display_slot(struct rdsrt_display *display, struct rdsrt_receiver *receiver, const uint16_t *blocks,
+                            size_t count);
+
 /* ---- Tags in another group type ---- */
 
 /* All calls read and write RT+ tags in group 11A. A station may have them in another type of version A: its groups 3A say
@@ -267,7 +296,7 @@ uint32_t rdsrt_time_in(const uint8_t *text, size_t length, uint64_t *time);
  * grain, the number is never too small. End as many slots without a group before the slot of the later group.
  * Returns RDSRT_UNKNOWN if the later time is before the earlier one, or more than an hour after it, or if the grain is
  * 87,579 or more. Nobody knows then how many slots were lost. End as many as the dwell: the receiver drops all it
- * holds. They may hide a fault from an audit, so begin a new one there. */
+ * holds. For a display that keeps, end N more. They may hide a fault from an audit, so begin a new one there. */
 uint32_t rdsrt_lost_slots(uint64_t earlier, uint64_t later, uint32_t grain);
 
 /* ---- Encoder ---- */
@@ -416,6 +445,7 @@ RDSRT_IS_(offsetof(struct rdsrt_tag, length) == 2);
 RDSRT_IS_(sizeof(struct rdsrt_view) == 84 && offsetof(struct rdsrt_view, name) == 66);
 RDSRT_IS_(offsetof(struct rdsrt_view, item) == 75 && offsetof(struct rdsrt_view, tag1) == 78);
 RDSRT_IS_(offsetof(struct rdsrt_view, tag2) == 81);
+RDSRT_IS_(sizeof(struct rdsrt_display) == 94 && offsetof(struct rdsrt_display, own_) == 84);
 RDSRT_IS_(sizeof(struct rdsrt_segments) == 4 && offsetof(struct rdsrt_segments, age) == 2);
 RDSRT_IS_(sizeof(struct rdsrt_held) == 8 && offsetof(struct rdsrt_held, name) == 4);
 RDSRT_IS_(sizeof(struct rdsrt_label) == 32 && offsetof(struct rdsrt_label, length) == 31);

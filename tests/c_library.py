@@ -214,21 +214,26 @@ def received():
             yield 20, whole % begins + (b"%d\n" % (begins + later)) * 2, shown
 
 
+# seconds for which a display keeps a text, and the whole slots in them: 1187.5 bits a second, 104 bits a slot
+KEPT = [("0", 0), ("5", 57)]
+
+
 def receive_inputs(log, options):
-    """Gives an input of receive.c without and with a window, and its answer."""
-    for window in ([], [WINDOW]):
-        groups, slots = timed(3, log, max(map(int, [DWELL, *window])))
-        confirm = ["--confirm", *window] if window else []
-        yield "receive", ["C201", DWELL, *window], groups, ran(["decode", *options, *confirm], slots)
+    """Gives inputs of receive.c without and with a window and a display that keeps, and their answers."""
+    for window in ("0", WINDOW):
+        for seconds, keep in KEPT:
+            groups, slots = timed(3, log, max(int(DWELL), int(window)) + keep)
+            more = ["--keep", str(keep), *(["--confirm", window] if window != "0" else [])]
+            yield "receive", ["C201", DWELL, window, seconds], groups, ran(["decode", *options, *more], slots)
 
 
 def tuner_inputs():
-    """Gives an input of tuner.c, whose dwell is 128, without and with a window, and its answer."""
+    """Gives inputs of tuner.c, whose dwell is 128 and which keeps for 60 s, without and with a window, and their answers."""
     log = ran(["encode", "--pi", "C201"], "".join(script(4, 8000)).encode())[1]
-    for most_errors, window in ((0, []), (1, [WINDOW])):
+    for most_errors, words, keep in ((0, [], 685), (0, ["0", "0"], 0), (1, [WINDOW, "5"], 57)):
         interrupts, slots = interrupted(5, log, most_errors)
-        options = ["--confirm", *window] if window else []
-        yield "tuner", ["C201", *window], interrupts, ran(["decode", "--pi", "C201", *options], slots)
+        more = ["--keep", str(keep), *(["--confirm", WINDOW] if most_errors else [])]
+        yield "tuner", ["C201", *words], interrupts, ran(["decode", "--pi", "C201", *more], slots)
 
 
 def inputs():
@@ -242,7 +247,7 @@ def inputs():
     given = [("encode", ["C201", "10", DWELL, LATE], rows, sent),
              *receive_inputs(sent[1][:200_000].rpartition(b"\n")[0], options),
              *tuner_inputs(),
-             *(("receive", ["C201", str(dwell)], text, (0, wanted)) for dwell, text, wanted in received())]
+             *(("receive", ["C201", str(dwell), "0", "0"], text, (0, wanted)) for dwell, text, wanted in received())]
     for one in [log, *(hostile(seed, log) for seed in range(PIECES))]:
         given.append(("decode", ["C201", DWELL], one, ran(["decode", *options], one)))
     for one in [sent[1], log, *(hostile(seed, sent[1]) for seed in range(PIECES))]:

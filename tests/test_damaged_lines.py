@@ -151,7 +151,7 @@ class DamagedLines(PackageCase):
                            ran([name, "--pi", "C201", "--m", str(dwell)], log_of(bad)))
             # slots count from the first time, here that of a group
             wanted = ran(["decode", "--pi", "C201", "--m", str(dwell)], log_of([FIRST, *plain, *[LOST] * 300]))
-            got = output([os.path.join(self.folder, "receive"), *words], timed([FIRST, *bad]))
+            got = output([os.path.join(self.folder, "receive"), *words, "0", "0"], timed([FIRST, *bad]))
             self.check(f"receive, M {dwell}", got, wanted)
             status, shown = output([os.path.join(self.folder, "tuner"), "C201"], log_of(b"%d %s 0 0 0 0" % (10 ** 5 * slot, it)
                                    for slot, it in enumerate(bad) if it != LOST))

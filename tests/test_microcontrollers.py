@@ -15,10 +15,10 @@ import narrow
 # for each Cortex-M a board of the emulator, and the end of its RAM: 4 MB, and 16 KB
 BOARDS = {"cortex-m4": ("mps2-an386", 0x20400000), "cortex-m4f": ("mps2-an386", 0x20400000), "cortex-m0plus": ("microbit", 0x20004000)}
 BARE = ["--specs=rdimon.specs", "-Wl,--section-start=.vectors=0", "-Wl,-Tdata=0x20000000", "-Wl,-z,noexecstack"]
-# each program of a board, its argument, input and output; a group of tuner.c, and its text a dwell later
+# each program of a board, its argument, input and output; a group of tuner.c, and its text a dwell and 60 s later
 PROGRAMS = [("tests/c/calls.c", "", b"", b"ok\n"), ("tests/c/any_bytes.c", c_library.ROUNDS, b"", b"ok\n"),
-            ("examples/c/tuner.c", "C201", b"1664000 C201 2140 4849 0D20 0 0 0 0\n1700000\n14000000\n",
-             b'0 text "HI"\n128 text none\n')]
+            ("examples/c/tuner.c", "C201", b"1664000 C201 2140 4849 0D20 0 0 0 0\n1700000\n80000000\n",
+             b'0 text "HI"\n813 text none\n')]
 # a receiver alone
 RECEIVER = b"""#include <rdsrt.h>
 struct rdsrt_receiver receiver; struct rdsrt_view view; uint16_t blocks[4];
@@ -31,7 +31,7 @@ void entry(void) {
 RADIO = b"""#include "radio.h"
 static struct radio radio; uint16_t blocks[4]; volatile uint64_t now;
 static void show(const struct radio *it, const struct rdsrt_view *was) { (void)it; (void)was; }
-void entry(void) { radio_init(&radio, 0xC201, 128, 0, show); radio_group(&radio, now, blocks); radio_time(&radio, now); }
+void entry(void) { radio_init(&radio, 0xC201, 128, 0, 60, show); radio_group(&radio, now, blocks); radio_time(&radio, now); }
 """
 # nanoseconds of an instruction of the emulator, as its power of two
 SHIFT = 7

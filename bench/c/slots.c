@@ -1,5 +1,6 @@
-/* Hands a log to a receiver of the C library (with a window if CONFIRMING is defined), to an audit if AUDIT is defined, or
- * to libv4l2rds if V4L2RDS is defined, one slot a line. Only the call of a slot is counted.   ./slots < log */
+/* Hands a log to a receiver of the C library (with a window if CONFIRMING is defined, with a display that keeps for 60 s
+ * if DISPLAY is), to an audit if AUDIT is defined, or to libv4l2rds if V4L2RDS is defined, one slot a line. Only the call
+ * of a slot is counted.   ./slots < log */
 #include <inttypes.h>
 #include <stdio.h>
 
@@ -48,10 +49,19 @@ int main(void) {
 #else
     rdsrt_receiver_init(&receiver, 0xC201, 128);
 #endif
+#ifdef DISPLAY
+    struct rdsrt_display display;
+    rdsrt_display_init(&display, 685);
+    for (; next_slot(blocks, &is_received); slots++) {
+        changes += rdsrt_display_slot(&display, &receiver, blocks, is_received ? 4 : 0) == RDSRT_CHANGED;
+    }
+    printf("%lu slots, %lu changes, %zu bytes of the caller's\n", slots, changes, sizeof receiver + sizeof display);
+#else
     for (; next_slot(blocks, &is_received); slots++) {
         changes += rdsrt_receiver_slot(&receiver, blocks, is_received ? 4 : 0) == RDSRT_CHANGED;
     }
     printf("%lu slots, %lu changes, %zu bytes of the caller's\n", slots, changes, sizeof receiver);
+#endif
 #endif
     return 0;
 }

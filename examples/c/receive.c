@@ -8,7 +8,7 @@
  *     cc receive.c $(pkg-config --cflags --libs rdsrt) -Wl,-rpath,$(pkg-config --variable=libdir rdsrt) -o receive
  *     ./receive C201 < groups
  *
- * Arguments: PI [DWELL [WINDOW]]. `./install ~/rdsrt` installs the library. */
+ * Arguments: PI [DWELL [WINDOW [KEEP_SECONDS]]]. `./install ~/rdsrt` installs the library. */
 #include <rdsrt.h>
 
 #include "log.h"
@@ -20,7 +20,7 @@
 #include <stdlib.h>
 
 static void show(const struct radio *radio, const struct rdsrt_view *was) {
-    print_changes((unsigned long)radio->slot, was, &radio->view);
+    print_changes((unsigned long)radio->slot, was, &radio->display.view);
 }
 
 /* Reads the blocks after a time: a space and four digits for each, up to the end of the line or another space. */
@@ -37,10 +37,11 @@ int main(int count, char **words) {
     unsigned long pi = count > 1 ? strtoul(words[1], NULL, 16) : 0x10000;
     unsigned long dwell = count > 2 ? strtoul(words[2], NULL, 10) : RDSRT_DEFAULT_DWELL;
     unsigned long window = count > 3 ? strtoul(words[3], NULL, 10) : 0;
+    unsigned long keep = count > 4 ? strtoul(words[4], NULL, 10) : 60;
 
-    if (pi > 0xFFFF || dwell > 0xFFFF || window > 0xFFFF
-        || !radio_init(&radio, (uint16_t)pi, (uint16_t)dwell, (uint16_t)window, show)) {
-        fputs("usage: receive PI [DWELL [WINDOW]] < groups\n", stderr);
+    if (pi > 0xFFFF || dwell > 0xFFFF || window > 0xFFFF || keep > 0xFFFF
+        || !radio_init(&radio, (uint16_t)pi, (uint16_t)dwell, (uint16_t)window, (uint16_t)keep, show)) {
+        fputs("usage: receive PI [DWELL [WINDOW [KEEP_SECONDS]]] < groups\n", stderr);
         return 2;
     }
     while (fgets(line, sizeof line, stdin)) {

@@ -5,7 +5,7 @@
  * - The main loop calls take_groups, if possible in each slot (88 ms), and at least once an hour. It makes one call of
  *   the library for each slot: the time between two groups says how many slots had none. So a lost group becomes a lost
  *   slot by itself, and so does a group for which there was no place. If no group comes any more, the text still goes
- *   after the dwell.
+ *   after the dwell and the seconds for which the display keeps it.
  * - If the chip is behind I2C, the handler cannot read it. Then keep only the time in the handler. Read the chip in the
  *   main loop within a slot (88 ms), before the chip has the next group. Call radio_group with long_time of that time, and
  *   radio_time in each slot without an interrupt.
@@ -18,7 +18,7 @@
  *     cc tuner.c $(pkg-config --cflags --libs rdsrt) -Wl,-rpath,$(pkg-config --variable=libdir rdsrt) -o tuner
  *     ./tuner C201 < interrupts
  *
- * Arguments: PI [WINDOW]. `./install ~/rdsrt` installs the library. */
+ * Arguments: PI [WINDOW [KEEP_SECONDS]]. `./install ~/rdsrt` installs the library. */
 #include <rdsrt.h>
 
 #include "log.h"
@@ -86,7 +86,7 @@ static uint32_t trial_time;
 static uint32_t trial_timer(void) { return trial_time; }
 
 static void show(const struct radio *radio, const struct rdsrt_view *was) {
-    print_changes((unsigned long)radio->slot, was, &radio->view);
+    print_changes((unsigned long)radio->slot, was, &radio->display.view);
 }
 
 /* Reads the numbers of a line. Returns how many there are, or 0 if another byte follows. */
@@ -113,10 +113,11 @@ int main(int count, char **words) {
     char line[128];
     unsigned long pi = count > 1 ? strtoul(words[1], NULL, 16) : 0x10000;
     unsigned long window = count > 2 ? strtoul(words[2], NULL, 10) : 0;
+    unsigned long keep = count > 3 ? strtoul(words[3], NULL, 10) : 60;
 
-    if (pi > 0xFFFF || window > 0xFFFF
-        || !radio_init(&radio, (uint16_t)pi, RDSRT_DEFAULT_DWELL, (uint16_t)window, show)) {
-        fputs("usage: tuner PI [WINDOW] < interrupts\n", stderr);
+    if (pi > 0xFFFF || window > 0xFFFF || keep > 0xFFFF
+        || !radio_init(&radio, (uint16_t)pi, RDSRT_DEFAULT_DWELL, (uint16_t)window, (uint16_t)keep, show)) {
+        fputs("usage: tuner PI [WINDOW [KEEP_SECONDS]] < interrupts\n", stderr);
         return 2;
     }
     most_errors = window ? 1 : 0;

@@ -43,6 +43,12 @@ class Logs(unittest.TestCase):
         self.assertEqual([seconds for seconds, group in slots_of if group], [5.0, 9.0])
         self.assertAlmostEqual(slots_of[3][0], 5.0 + slot_time(3))
 
+    def test_nothing_is_kept_over_a_break(self):
+        """The clock goes back: no text of before is shown after it."""
+        receiver = Receiver(0xC201, dwell=8, keep_seconds=60)
+        views = [view.text for _, view in receiver.watch_timed([(7000.0, HI), (100.0, None)])]
+        self.assertEqual((views, receiver.view.text), (["HI", None], None))
+
     def test_lines(self):
         log = b"# note\n\n%x\n<y\nC201 2140 4849 0d20\r\nC201 2140 4849 0D20 @12:00 \xff\rx\nC201 ---- 4849 0D20\n\r\n"
         self.assertEqual(list(read_log(io.BytesIO(log))), [HI, HI, None])
@@ -87,7 +93,7 @@ class Logs(unittest.TestCase):
         for group in ((1, 2, 3, 0x12345), (1, 2, 3, -5), (1, 2, 3), OfFour((1, 2)), OfFour((1, 2, 3, 4, 5))):
             with self.assertRaisesRegex(ValueError, "a block is|a group has 4 blocks"):
                 format_group(group)
-        for dwell in (-1, 0, 65536):
+        for dwell in (-1, 0, 131_071):
             with self.assertRaisesRegex(ValueError, "dwell is"):
                 list(slots([(0.0, HI)], dwell=dwell))
         with self.assertRaisesRegex(TypeError, "dwell is an int"):

@@ -14,7 +14,7 @@ import weakref
 import by_chance
 import rdsrt
 from rdsrt import (Audit, ContentType, Encoder, Fault, Held, InvalidText, Item, MalformedLine, NoText,
-                   OutOfText, Receiver, Refused, Segments, Silent, Tag, View, Wait, closest)
+                   OutOfText, Receiver, Refused, Segments, Silent, Tag, View, Wait, closest, slot_time)
 from rdsrt import _library
 
 HI = (0xC201, 0x2140, 0x4849, 0x0D20)
@@ -95,6 +95,22 @@ class Receivers(unittest.TestCase):
         self.assertEqual(list(receiver.watch([None, HI, None, None, None])), [(1, View("HI")), (3, View())])
         self.assertEqual((receiver.pi, receiver.dwell), (0xC201, 2))
         self.assertIn("C201", repr(receiver))
+
+    def test_the_view_keeps_a_text(self):
+        receiver = Receiver(0xC201, dwell=2, keep_seconds=slot_time(3))
+        self.assertEqual(list(receiver.watch([HI, *[None] * 6])), [(0, View("HI")), (5, View())])
+        receiver.slot(HI)
+        for _ in range(2):
+            receiver.slot(None)
+        self.assertEqual((receiver.view, receiver.received, receiver.keep), (View("HI"), View(), 3))
+        # the first segment of a text with the other flag
+        receiver.slot((0xC201, 0x2151, 0x594F, 0x0D20))
+        self.assertEqual(receiver.view, View())
+        self.assertEqual((Receiver(1, keep_seconds=60).keep, Receiver(1).keep), (685, 0))
+        self.assertEqual(Receiver(1, keep_seconds=slot_time(0xFFFF)).keep, 0xFFFF)
+        for seconds in (-0.1, 5740, float("nan"), float("inf")):
+            with self.assertRaises(ValueError):
+                Receiver(1, keep_seconds=seconds)
 
     def test_slot_says_whether_the_view_may_have_changed(self):
         receiver = Receiver(0xC201)

@@ -8,7 +8,7 @@ import unittest
 import by_chance
 import rdsrt
 from by_chance import PROGRAM, ran
-from rdsrt import Audit, MalformedLine, Receiver, format_group, read_log, type_name
+from rdsrt import Audit, MalformedLine, Receiver, format_group, read_log, slot_time, type_name
 from rdsrt.characters import CHARACTERS, PRINTED, coded
 
 
@@ -50,11 +50,13 @@ class BesideTheProgram(unittest.TestCase):
         rng, changes = random.Random(7), 0
         for dwell in (1, 8, 16, 32, 300):
             groups = by_chance.heard(rng, by_chance.groups(rng, dwell, 4000))
-            lines = ran("decode", "--pi", "C201", "--m", str(dwell), log=by_chance.log_of(groups))
-            mine = [by_chance.shown_in(*it, program_name) for it in Receiver(0xC201, dwell).watch(groups)]
-            self.assertEqual(mine, by_chance.shown_by(lines))
-            changes += len(mine)
-        self.assertGreater(changes, 500)
+            for keep in (0, 5, 60):
+                receiver, words = Receiver(0xC201, dwell, keep_seconds=slot_time(keep)), ["--m", str(dwell), "--keep", str(keep)]
+                lines = ran("decode", "--pi", "C201", *words, log=by_chance.log_of(groups))
+                mine = [by_chance.shown_in(*it, program_name) for it in receiver.watch(groups)]
+                self.assertEqual(mine, by_chance.shown_by(lines))
+                changes += len(mine)
+        self.assertGreater(changes, 1000)
 
     def test_audit(self):
         rng, answers = random.Random(8), set()

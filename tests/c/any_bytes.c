@@ -106,6 +106,33 @@ static void receiver(void) {
     free(v);
 }
 
+/* A display has what its receiver shows, or what it showed before. */
+static void display(void) {
+    struct rdsrt_receiver *r = (struct rdsrt_receiver *)any(sizeof *r);
+    struct rdsrt_display *d = (struct rdsrt_display *)any(sizeof *d);
+    bool began = roll(2);
+    if (roll(2)) CHECK(rdsrt_receiver_init(r, 0xC201, (uint16_t)(1 + roll(3))) == RDSRT_OK);
+    if (began) rdsrt_display_init(d, (uint16_t)roll(6));
+    for (int i = 0; i < 8; i++) {
+        size_t count = roll(3) ? 4 : roll(7);
+        uint16_t *blocks = any_blocks(count, r);
+        struct rdsrt_display *was = (struct rdsrt_display *)copy(d, sizeof *d);
+        struct rdsrt_receiver *alone = (struct rdsrt_receiver *)copy(r, sizeof *r);
+        uint32_t code = rdsrt_display_slot(d, r, count ? blocks : NULL, count);
+        CHECK((code == RDSRT_BAD_ARGUMENT) == (count != 0 && count != 4) && code <= RDSRT_BAD_ARGUMENT);
+        CHECK(code != RDSRT_BAD_ARGUMENT || memcmp(d, was, sizeof *d) == 0);
+        CHECK(code != RDSRT_OK || memcmp(&d->view, &was->view, sizeof d->view) == 0);
+        rdsrt_receiver_slot(alone, count ? blocks : NULL, count);
+        CHECK(memcmp(r, alone, sizeof *r) == 0);
+        if (began) check_view(&d->view);
+        free(alone);
+        free(was);
+        free(blocks);
+    }
+    free(r);
+    free(d);
+}
+
 /* A set that was refused has changed nothing, and its code is not above `last`. */
 static void refused(const struct rdsrt_encoder *e, const void *before, struct rdsrt_reply reply, uint32_t last) {
     CHECK(reply.code <= last && reply.code != RDSRT_SENT && reply.code != RDSRT_BAD_ARGUMENT);
@@ -263,7 +290,7 @@ static void names(void) {
     free(label);
 }
 
-static void (*const CALLS[])(void) = {receiver, encoder, audit, texts, times, names};
+static void (*const CALLS[])(void) = {receiver, display, encoder, audit, texts, times, names};
 enum { COUNT = sizeof CALLS / sizeof *CALLS };
 
 #ifdef RDSRT_FUZZ

@@ -107,6 +107,52 @@ static void held(void) {
     CHECK(is.text.held == 1 && is.text.age == 0 && is.name.held == 0 && is.name.age == 8);
 }
 
+/* Whether the display shows this text, or none. */
+static int shows(const struct rdsrt_display *display, const char *text) {
+    const struct rdsrt_text *shown = &display->view.text;
+    if (!text) return !shown->is_shown && !shown->length;
+    return shown->is_shown && shown->length == strlen(text) && memcmp(shown->bytes, text, shown->length) == 0;
+}
+
+/* A display that keeps for 3 slots shows the text, and its tag, for 3 slots longer than the receiver; a segment with the
+ * other flag ends it at once, and so does another text. */
+static void display(void) {
+    static const uint16_t part[4] = {0xC201, 0x2151, 0x594F, 0x0D20};
+    struct rdsrt_receiver it;
+    struct rdsrt_display display;
+    struct rdsrt_view view;
+    CHECK(rdsrt_receiver_init(&it, 0xC201, 3) == RDSRT_OK);
+    memset(&display, 0xA5, sizeof display);
+    rdsrt_display_init(&display, 3);
+    CHECK(shows(&display, NULL) && !display.view.name.is_shown && !display.view.item.is_shown);
+    CHECK(rdsrt_display_slot(&display, &it, hi, 3) == RDSRT_BAD_ARGUMENT && shows(&display, NULL));
+    CHECK(rdsrt_display_slot(&display, &it, hi, 4) == RDSRT_CHANGED && shows(&display, "HI"));
+    CHECK(rdsrt_display_slot(&display, &it, announcement, 4) == RDSRT_OK);
+    CHECK(rdsrt_display_slot(&display, &it, hi, 4) == RDSRT_OK);
+    CHECK(rdsrt_display_slot(&display, &it, tags_of_hi, 4) == RDSRT_CHANGED && display.view.tag1.content_type == 4);
+    CHECK(rdsrt_display_slot(&display, &it, NULL, 0) == RDSRT_OK);
+    /* the receiver drops the text 3 slots after its last segment, and the display keeps it from then on */
+    for (int slot = 0; slot < 3; slot++) {
+        rdsrt_display_slot(&display, &it, NULL, 0);
+        rdsrt_receiver_view(&it, &view);
+        CHECK(!view.text.is_shown && !view.tag1.content_type);
+        CHECK(shows(&display, "HI") && display.view.item.is_shown == 1 && display.view.tag1.length == 2);
+    }
+    CHECK(rdsrt_display_slot(&display, &it, NULL, 0) == RDSRT_CHANGED && shows(&display, NULL));
+    CHECK(!display.view.item.is_shown && !display.view.tag1.content_type);
+    CHECK(rdsrt_display_slot(&display, &it, NULL, 0) == RDSRT_OK);
+    CHECK(rdsrt_display_slot(&display, &it, hi, 4) == RDSRT_CHANGED && shows(&display, "HI"));
+    CHECK(rdsrt_display_slot(&display, &it, part, 4) == RDSRT_CHANGED && shows(&display, NULL));
+    CHECK(rdsrt_display_slot(&display, &it, hi, 4) == RDSRT_CHANGED && shows(&display, "HI"));
+    CHECK(rdsrt_display_slot(&display, &it, yo, 4) == RDSRT_CHANGED && shows(&display, "YO"));
+    /* with 0 it keeps nothing */
+    CHECK(rdsrt_receiver_init(&it, 0xC201, 2) == RDSRT_OK);
+    rdsrt_display_init(&display, 0);
+    CHECK(rdsrt_display_slot(&display, &it, hi, 4) == RDSRT_CHANGED && shows(&display, "HI"));
+    CHECK(rdsrt_display_slot(&display, &it, NULL, 0) == RDSRT_OK && shows(&display, "HI"));
+    CHECK(rdsrt_display_slot(&display, &it, NULL, 0) == RDSRT_CHANGED && shows(&display, NULL));
+}
+
 /* The names of content types and of codes; the bytes after a name are 0. */
 static void names(void) {
     static const struct rdsrt_label empty = {{0}, 0};
@@ -386,6 +432,7 @@ int main(void) {
     tags_shown();
     confirming();
     held();
+    display();
     names();
     encoder();
     tag_group();

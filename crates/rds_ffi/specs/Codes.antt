@@ -17,7 +17,7 @@ use Rattle.rds_ffi.specs.declared.reply.RdsrtReply.{RdsrtReply}
 
 -- it changes with every size, offset, code or call of the header
 abbrev pub RDSRT_ABI : ℕ
-RDSRT_ABI = 9
+RDSRT_ABI = 10
 
 -- the times do not tell how many slots were lost
 abbrev pub RDSRT_UNKNOWN : ℕ

@@ -1,7 +1,7 @@
 //! The codes that calls return. Contracts use their names in C, from `specs/Codes`.
 
 /// The number of this interface. It changes with every size, offset, code or call of the C header.
-pub(crate) const ABI: u32 = 9;
+pub(crate) const ABI: u32 = 10;
 
 /// The times do not tell how many slots were lost.
 pub(crate) const UNKNOWN: u32 = u32::MAX;

@@ -7,6 +7,7 @@
 mod arrivals;
 mod audit;
 mod codes;
+mod display;
 mod encoder;
 mod held;
 mod label;
@@ -29,6 +30,8 @@ const _: () = prove!(size_of::<rds_audit::Audit>() == 312);
 const _: () = prove!(size_of::<rds_audit::StoredFaults>() == 5);
 
 const _: () = prove!(size_of::<view::RdsrtView>() == 84);
+
+const _: () = prove!(size_of::<display::RdsrtDisplay>() == 94);
 
 const _: () = prove!(size_of::<held::RdsrtHeld>() == 8);
 

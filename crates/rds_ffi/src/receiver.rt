@@ -12,9 +12,9 @@ ghost use Rattle.rds_ffi.specs.Viewed.{ShowsTagsOf, IsPlainView, viewed};
 
 use crate::codes;
 use crate::slots::slot_of;
-use crate::view::{RdsrtView, seen};
+use crate::view::{RdsrtView, show};
 use rds_fields::Dwell;
-use rds_receiver::{Receiver, Window};
+use rds_receiver::{NOTHING_KEPT, Receiver, Window};
 
 /// Makes a receiver of this programme that heard nothing yet. The dwell is in slots.
 ///
@@ -100,5 +100,5 @@ pub extern "C" fn rdsrt_receiver_view(receiver: &Receiver, view: &mut RdsrtView)
         ShowsTagsOf (pair_held t.dwell t.first (counted t (heard_of t.programme input))) view.new) }
     ensures plain { IsPlainView view.new }
 {
-    *view = seen(receiver);
+    show(view, NOTHING_KEPT, receiver);
 }

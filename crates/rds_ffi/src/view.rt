@@ -1,7 +1,11 @@
 //! The view of a receiver as a plain struct.
-ghost use Rattle.std.specs.Prelude.{◌≡◌, ◌+◌, ◌≤◌, None, Option, Some, length};
+ghost use Rattle.std.specs.Prelude.{◌≡◌, ◌+◌, ◌≤◌, ◌⊎◌, ℕ, List, None, Option, Some, false, length};
+ghost use Rattle.std.specs.Prelude.{if◌then◌else◌, true};
 ghost use Rattle.std.specs.Option.{ForSome, option_copied};
-ghost use Rattle.rds_receiver.specs.Shown.{IsShortText, IsView};
+ghost use Rattle.rds_receiver.specs.Counts.{keeping};
+ghost use Rattle.rds_receiver.specs.Kept.{beside};
+ghost use Rattle.rds_receiver.specs.Shown.{IsNameShown, IsShortText, IsTextShown, IsView, ShownView};
+ghost use Rattle.rds_receiver.specs.Shown.{view_with};
 ghost use Rattle.rds_receiver.specs.Tags.{pair_held, tag_of};
 ghost use Rattle.rds_receiver.specs.ReceiverAt.{WhatItHeard, WhereReceiverStands};
 ghost use Rattle.rds_ffi.specs.Viewed as specs;
@@ -10,7 +14,7 @@ ghost use Rattle.rds_ffi.specs.Viewed.{count_of, item_viewed, name_viewed, tag_v
 
 use rds_assembly::LONGEST_TEXT;
 use rds_fields::{TagPair, Which};
-use rds_receiver::Receiver;
+use rds_receiver::{Kept, Receiver};
 
 /// A text, its first `length` bytes. `is_shown` is 0 if there is none.
 #[repr(C)]
@@ -58,19 +62,63 @@ pub struct RdsrtView {
     pub two: RdsrtTag,
 }
 
-/// Returns the view of the receiver.
-pub(crate) fn seen(receiver: &Receiver) -> RdsrtView
-    ensures shown { WhereReceiverStands receiver.now (λ t input. IsView t input (viewed result)) }
-    ensures tags { WhatItHeard receiver.now (λ m first heard. ShowsTagsOf (pair_held m first heard) result) }
-    ensures plain { IsPlainView result }
+/// Writes the parts of the receiver's view that are not kept.
+pub(crate) fn show(view: &mut RdsrtView, kept: Kept, receiver: &Receiver)
+    ensures shown { WhereReceiverStands receiver.now (λ t input. (now : ShownView) × IsView t input now
+        × (viewed view.new ≡ keeping kept (viewed view.old) now)) }
+    ensures tags { kept.text ≡ false → WhatItHeard receiver.now (λ m first heard.
+        ShowsTagsOf (pair_held m first heard) view.new) }
+    ensures plain { ((kept.text ≡ true) ⊎ (kept.name ≡ true) → IsPlainView view.old) → IsPlainView view.new }
+{
+    show_name(view, kept.name, receiver);
+    show_text(view, kept.text, receiver);
+}
+
+/// Writes the name, if it is not kept.
+fn show_name(view: &mut RdsrtView, is_kept: bool, receiver: &Receiver)
+    ensures others { view.new ≡ record view.old { name = view.new.name } }
+    ensures shown { WhatItHeard receiver.now (λ m first heard. (name : Option (List ℕ)) × IsNameShown m first heard name
+        × (name_viewed view.new.name ≡ if is_kept then name_viewed view.old.name else name)) }
+    ensures plain { (is_kept ≡ true → IsPlainName view.old.name) → IsPlainName view.new.name }
+{
+    let name = receiver.name();
+    if is_kept {
+        return;
+    }
+    view.name = plain_name(name);
+}
+
+/// Writes the text with its item bits and tags, if they are not kept.
+fn show_text(view: &mut RdsrtView, is_kept: bool, receiver: &Receiver)
+    ensures name { view.new.name ≡ view.old.name }
+    ensures shown { WhatItHeard receiver.now (λ m first heard. (text : Option (List ℕ)) × IsTextShown m first heard text
+        × (viewed view.new ≡ keeping record { text = is_kept; name = true } (viewed view.old)
+        (view_with text None (pair_held m first heard)))) }
+    ensures tags { is_kept ≡ false → WhatItHeard receiver.now (λ m first heard.
+        ShowsTagsOf (pair_held m first heard) view.new) }
+    ensures plain { IsPlainName view.old.name → (is_kept ≡ true → IsPlainView view.old) → IsPlainView view.new }
 {
     let text = receiver.text();
+    if is_kept {
+        return;
+    }
+    view.text = plain_text(text);
+    view.item = plain_item(receiver.item());
+    view.one = plain_tag(text, Which::One, receiver.pair());
+    view.two = plain_tag(text, Which::Two, receiver.pair());
+}
+
+/// Returns the view of a display that shows nothing.
+pub(crate) fn nothing_seen() -> RdsrtView
+    ensures shown { viewed result ≡ beside None None }
+    ensures plain { IsPlainView result }
+{
     RdsrtView {
-        text: plain_text(text),
-        name: plain_name(receiver.name()),
-        item: plain_item(receiver.item()),
-        one: plain_tag(text, Which::One, receiver.pair()),
-        two: plain_tag(text, Which::Two, receiver.pair()),
+        text: plain_text(None),
+        name: plain_name(None),
+        item: plain_item(None),
+        one: no_tag(),
+        two: no_tag(),
     }
 }
 

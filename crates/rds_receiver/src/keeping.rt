@@ -40,6 +40,12 @@ pub struct Kept {
     pub name: bool,
 }
 
+/// A display that keeps nothing shows what its receiver shows.
+pub const NOTHING_KEPT: Kept = Kept {
+    text: false,
+    name: false,
+};
+
 impl StoredKept {
     /// Starts with no value.
     fn new() -> StoredKept

@@ -27,7 +27,7 @@ mod window;
 
 pub use display::{StoredDisplay, StoredSegments};
 pub use fragment::Fragment;
-pub use keeping::{Keeping, Kept};
+pub use keeping::{Keeping, Kept, NOTHING_KEPT};
 pub use last::StoredLastSegments;
 pub use laws::{one_view, run_is_the_longest, what_is_kept_was_shown};
 pub use receiver::{Receiver, heard, heard_blocks};

@@ -25,7 +25,7 @@ use crate::notes::{EarlySet, note_wait};
 use crate::row::RowRefused;
 use arrayvec::ArrayVec;
 use rds_io::Lines;
-use rds_receiver::{Kept, Receiver, WhyNone, Whys};
+use rds_receiver::{NOTHING_KEPT, Receiver, WhyNone, Whys};
 use rds_view_lines::{KeptView, Prefix, SLOT_ROOM, show};
 use rds_world::{Config, MOST_RECEIVERS, Reception, SlotEvent, StepRefused, World};
 use std::alloc::Global;
@@ -36,12 +36,6 @@ pub(crate) const ROW_ROOM: usize = MOST_RECEIVERS * SLOT_ROOM + ANSWER_ROOM + CO
 
 /// The most bytes of output that wait to be written.
 pub(crate) const OUTPUT_ROOM: usize = 65536;
-
-/// The displays of a simulation keep nothing.
-const NOTHING_KEPT: Kept = Kept {
-    text: false,
-    name: false,
-};
 
 /// The output of rows that waits to be written.
 pub(crate) type RowLines = Lines<OUTPUT_ROOM>;

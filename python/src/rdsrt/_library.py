@@ -5,7 +5,7 @@ import functools
 import os
 from typing import Any, Dict, Iterator, List, Tuple
 
-ABI = 9
+ABI = 10
 NAME = f"librdsrt.so.{ABI}"
 DEFAULT_DWELL = 128
 OK, DONE, BAD_ARGUMENT, SILENT, HELD, NO_TEXT, OUT_OF_TEXT_1, OUT_OF_TEXT_2 = 0, 1, 2, 3, 4, 5, 6, 7
@@ -39,6 +39,10 @@ class Tag(ctypes.Structure):
 
 class View(ctypes.Structure):
     _fields_ = [("text", Text), ("name", Name), ("item", Item), ("tag1", Tag), ("tag2", Tag)]
+
+
+class Display(ctypes.Structure):
+    _fields_ = [("view", View), ("own", u16 * 5)]
 
 
 class OnAir(ctypes.Structure):
@@ -78,16 +82,24 @@ class Version(ctypes.Structure):
 
 
 Receiver, Encoder, Audit = u32 * 66, u32 * 29, u64 * 39
-SIZES: Dict[Any, int] = {Receiver: 264, Encoder: 116, Audit: 312, Faults: 5, View: 84, OnAir: 75, Tags: 8, Reply: 8,
-                         Wait: 12, HeldSegments: 8, Label: 32}
+SIZES: Dict[Any, int] = {Receiver: 264, Encoder: 116, Audit: 312, Faults: 5, View: 84, Display: 94, OnAir: 75, Tags: 8,
+                         Reply: 8, Wait: 12, HeldSegments: 8, Label: 32}
+
+
+class Displayed(ctypes.Structure):
+    """A receiver and its display."""
+    _fields_ = [("receiver", Receiver), ("display", Display)]
+
+
 ANY = ctypes.c_void_p
 CALLS: Dict[str, Tuple[Any, List[Any]]] = {
     "version": (Version, []),
     "receiver_init": (u32, [ANY, u16, u16]),
     "receiver_init_confirming": (u32, [ANY, u16, u16, u16]),
-    "receiver_slot": (u32, [ANY, ANY, size_t]),
     "receiver_view": (None, [ANY, ANY]),
     "receiver_held": (None, [ANY, ANY]),
+    "display_init": (None, [ANY, u16]),
+    "display_slot": (u32, [ANY, ANY, ANY, size_t]),
     "slot_time": (u64, [u32]),
     "time_in": (u32, [ANY, size_t, ANY]),
     "lost_slots": (u32, [u64, u64, u32]),

@@ -155,7 +155,7 @@ def slots(timed: Iterable[Tuple[float, Optional[Group]]], grain: float = 0.02,
     `rdsrt_lost_slots` of the C library counts the lost slots. `grain` is how far the times can be off, in seconds: a
     group may come that much earlier than a time without a group before it. If a time is earlier than that, earlier than
     the last group, or more than an hour later than it, `dwell` lost slots come: after them a receiver with this dwell
-    has dropped everything. They may hide a fault from an `Audit`: give the slots after them to a new one."""
+    has dropped everything. If its view keeps texts, give its `dwell` and `keep` together. They may hide a fault from an `Audit`: give the slots after them to a new one."""
     return (group for _, group in timed_slots(timed, grain, dwell))
 
 
@@ -163,7 +163,7 @@ def timed_slots(timed: Iterable[Tuple[float, Optional[Group]]], grain: float = 0
                 dwell: int = c.DEFAULT_DWELL) -> Iterator[Tuple[float, Optional[Group]]]:
     """Yields the same slots as `slots`, each with its time in seconds. A lost slot has the time of the last group and a
     slot more for each lost one since."""
-    in_range("dwell", dwell, 1, 0xFFFF)
+    in_range("dwell", dwell, 1, 2 * 0xFFFF)
     if not 0 <= grain < slot_time():
         raise ValueError(f"grain is {grain!r} and not from 0 to less than {slot_time():.4f}")
     fine = round(grain * 1e6)

@@ -7,7 +7,7 @@ from typing import Any, Dict, Iterable, Iterator, List, NamedTuple, Optional, Se
 
 from . import _library as c
 from .characters import InvalidText, coded, require_str, shown, symbols
-from .logs import Group, Integer, blocks_of, in_range, timed_slots
+from .logs import Group, Integer, blocks_of, in_range, slot_time, timed_slots
 from .views import ContentType, Item, Segments, Tag, View, content_type_of
 
 _Any = TypeVar("_Any", bound="_Plain")
@@ -111,6 +111,14 @@ def _name_of(it: c.Name) -> Optional[str]:
     return shown(bytes(it.bytes)) if it.is_shown else None
 
 
+def _view_of(it: c.View) -> View:
+    text = bytes(it.text.bytes)
+    tags = tuple(Tag(content_type_of(tag.content_type), shown(text[tag.start:tag.start + tag.length]), tag.start,
+                     tag.length) for tag in (it.tag1, it.tag2) if tag.length)
+    item = Item(bool(it.item.toggle), bool(it.item.running)) if it.item.is_shown else None
+    return View(_text_of(it.text), _name_of(it.name), item, tags)
+
+
 class _Plain:
     """A struct of the library, for a programme and a dwell. It can be copied, pickled and compared. Two objects are
     equal if their structs have the same bytes. Only the calls change it: its numbers are read-only, and no other attribute
@@ -174,52 +182,69 @@ class Receiver(_Plain):
     slots.
 
     With a `window`, 2 to 255 slots, it shows only what it received twice less than so many slots apart. Its groups may
-    have corrected bits."""
-    __slots__ = ("_window",)
-    _type = c.Receiver
+    have corrected bits.
+
+    With `keep_seconds` the view keeps a text for so long after the receiver dropped it, with its tags, until the next
+    text comes. Names likewise. The time is rounded to slots, at most 65,535 of them. 60 is good for what a listener
+    sees."""
+    __slots__ = ("_window", "_keep")
+    _type = c.Displayed
     _window: Optional[int]
+    _keep: int
 
     def __init__(self, pi: Integer, dwell: Integer = c.DEFAULT_DWELL, *,
-                 window: Optional[Integer] = None):
+                 window: Optional[Integer] = None, keep_seconds: float = 0):
         self._pi, self._dwell = in_range("pi", pi, 0, 0xFFFF), in_range("dwell", dwell, 1, 0xFFFF)
         self._window = None if window is None else in_range("window", window, 2, 0xFF)
+        if not 0 <= keep_seconds <= slot_time(0xFFFF):
+            raise ValueError(f"keep_seconds is {keep_seconds!r} and not from 0 to {slot_time(0xFFFF):.1f}")
+        self._keep = round(keep_seconds / slot_time(0xFFFF) * 0xFFFF)
         self._its = self._type()
+        c.library().rdsrt_display_init(ctypes.byref(self._its.display), self._keep)
         if self._window is None:
-            c.library().rdsrt_receiver_init(self._its, self.pi, self.dwell)
+            c.library().rdsrt_receiver_init(self._its.receiver, self.pi, self.dwell)
         else:
-            c.library().rdsrt_receiver_init_confirming(self._its, self.pi, self.dwell, self._window)
+            c.library().rdsrt_receiver_init_confirming(self._its.receiver, self.pi, self.dwell, self._window)
 
     def __repr__(self) -> str:
         window = "" if self._window is None else f", window {self._window}"
-        return f"<Receiver of {self.pi:04X}, dwell {self.dwell}{window}: {self.view}>"
+        keep = f", keep {self._keep}" if self._keep else ""
+        return f"<Receiver of {self.pi:04X}, dwell {self.dwell}{window}{keep}: {self.view}>"
 
     @property
     def window(self) -> Optional[int]:
         """The window in slots. None if the receiver shows what it received once."""
         return self._window
 
+    @property
+    def keep(self) -> int:
+        """For how many slots the view keeps what the receiver dropped."""
+        return self._keep
+
     def slot(self, group: Optional[Sequence[Integer]]) -> bool:
         """Ends a slot with this group, or with None if no whole group arrived. Returns whether the view may have
         changed."""
         blocks, count = _blocks(group)
-        return bool(c.library().rdsrt_receiver_slot(self._its, blocks, count) == c.DONE)
+        its, display = self._its.receiver, ctypes.byref(self._its.display)
+        return bool(c.library().rdsrt_display_slot(display, its, blocks, count) == c.DONE)
 
     @property
     def view(self) -> View:
-        """Everything that the receiver shows at the end of its last slot."""
+        """Everything that the display shows at the end of the last slot."""
+        return _view_of(self._its.display.view)
+
+    @property
+    def received(self) -> View:
+        """What the receiver itself shows, of which nothing is kept. Ask it before you act on tags."""
         it = c.View()
-        c.library().rdsrt_receiver_view(self._its, ctypes.byref(it))
-        text = bytes(it.text.bytes)
-        tags = tuple(Tag(content_type_of(tag.content_type), shown(text[tag.start:tag.start + tag.length]), tag.start,
-                         tag.length) for tag in (it.tag1, it.tag2) if tag.length)
-        item = Item(bool(it.item.toggle), bool(it.item.running)) if it.item.is_shown else None
-        return View(_text_of(it.text), _name_of(it.name), item, tags)
+        c.library().rdsrt_receiver_view(self._its.receiver, ctypes.byref(it))
+        return _view_of(it)
 
     @property
     def segments(self) -> Tuple[Segments, Segments]:
         """The segments that are held of the text and of the name, complete or not."""
         it = c.HeldSegments()
-        c.library().rdsrt_receiver_held(self._its, ctypes.byref(it))
+        c.library().rdsrt_receiver_held(self._its.receiver, ctypes.byref(it))
         text, name = (Segments(tuple(a for a in range(16) if of.held >> a & 1), of.age) for of in (it.text, it.name))
         return text, name
 
@@ -231,7 +256,7 @@ class Receiver(_Plain):
                     grain: float = 0.02) -> Iterator[Tuple[float, View]]:
         """Takes groups with their times, and the slots that were lost between them (`timed_slots`). Yields the time of
         each slot that changed the view, in seconds, and the view."""
-        return self._changes(timed_slots(timed, grain, self.dwell))
+        return self._changes(timed_slots(timed, grain, self.dwell + self.keep))
 
     def _changes(self, slots: Iterable[Tuple[_Key, Optional[Sequence[Integer]]]]) -> Iterator[Tuple[_Key, View]]:
         last = self.view
