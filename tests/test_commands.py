@@ -60,6 +60,8 @@ RUN = [
      "flag agree, or differ in one segment\n"
      "rdsrt: 3 of 9 texts: EarlyFlag, first in slot 2 (line 4, 2.0), last in slot 408 (line 410, 408.0); in 3 of them no "
      "receiver shows a mix: the texts with this flag agree, or differ in one segment\n"
+     "rdsrt: in 146 of 409 slots no text segment had come for M = 128 slots: receivers with this M show no text then. Keep the "
+     "text on their displays (rdsrt decode --keep)\n"
      "rdsrt: judged in 409 slots, 400 without a group: 9 texts, 0 names, 0 pairs of tags\n",
      ("faults.txt", "no 2 EarlyFlag\nno 3 EarlyFlag\nno 205 Changed\nno 408 EarlyFlag\n")),
     ("./rdsrt decode --pi C201 station.log | programs/json", {"station.log": f"{HI}\n" + f"{LOST}\n" * 128}, {},

@@ -158,6 +158,18 @@ def note(text):
     return f"rdsrt: {text}\n"
 
 
+def note_of_pauses(paused, slots, m):
+    """Returns the note that receivers of dwell m show no text in so many slots, if there are any."""
+    return paused and note(f"in {paused} of {slots} slots no text segment had come for M = {m} slots: receivers with this M "
+                           "show no text then. Keep the text on their displays (rdsrt decode --keep)") or ""
+
+
+def paused_slots(slots, m):
+    """Returns in how many of these slots no text segment had come for m slots, after the first one."""
+    came = [slot for slot, it in enumerate(slots) if it and it.startswith("C201 21")]
+    return sum(slot - max(it for it in came if it <= slot) >= m for slot in range(came[0] if came else 0, len(slots)) if came)
+
+
 def next_commands(m, k, rule=""):
     """Returns the commands that a no by this rule proposes for a log on standard input."""
     late, look = f" --k {k}" if k else "", "look for lost slots that make a mix: rdsrt witness"
@@ -411,8 +423,8 @@ class Warnings(ProgramCase):
             log = "".join(f"{it or '---- ---- ---- ----'}\n" for it in slots).encode()
             _, answer, told = noted(f"{AUDIT} --m {m} --k {k}", log)
             if wanted is None:
-                empty = slots.count(None)
-                self.check(f"{name}: a yes", told.startswith((f"rdsrt: judged in 60 slots, {empty} without a group: ",
+                empty, pauses = slots.count(None), note_of_pauses(paused_slots(slots, m), 60, m)
+                self.check(f"{name}: a yes", told.startswith((f"{pauses}rdsrt: judged in 60 slots, {empty} without a group: ",
                                                               "rdsrt: no 2A")), True, log)
                 continue
             fault, is_name, slot, where = wanted
@@ -432,8 +444,11 @@ class Warnings(ProgramCase):
         pause = LOST * 8
         for log, words, told in (
                 (text, AUDIT, "judged in 1 slot: 1 text, 0 names, 0 pairs of tags"),
-                (text + pause + tags * 2 + other + name, f"{AUDIT} --m 8",
-                 "judged in 13 slots, 8 without a group: 2 texts, 1 name, 2 pairs of tags"),
+                (text + pause + tags * 2 + other + name, f"{AUDIT} --m 8", note_of_pauses(3, 13, 8)[7:]
+                 + "rdsrt: judged in 13 slots, 8 without a group: 2 texts, 1 name, 2 pairs of tags"),
+                (text + LOST * 7 + text, f"{AUDIT} --m 8", "judged in 9 slots, 7 without a group: 2 texts, 0 names, 0 pairs of tags"),
+                (text + LOST * 8, f"{AUDIT} --m 8", note_of_pauses(1, 9, 8)[7:]
+                 + "rdsrt: judged in 9 slots, 8 without a group: 1 text, 0 names, 0 pairs of tags"),
                 (tags + text, f"{AUDIT} --running", "judged in 2 slots: 1 text, 0 names, 0 pairs of tags"),
                 (text + second * 3, AUDIT,
                  "judged in 4 slots: 1 text, 0 names, 0 pairs of tags; 3 groups 2B were not judged"),
@@ -530,6 +545,9 @@ OBJECTS = [
       {"kind": "judged", "slots": 2, "empty": 1, "texts": 1, "names": 0, "tags": 0, "short": 0}]),
     (DECODE, b"C201 2140 4849 2020\nC201 2150 4849 2020\nC201 2141 594F 0D20\n",
      [{"kind": "incomplete", "texts": 3, "complete": 0, "endless": 2}]),
+    (f"{AUDIT} --m 2", HI + LOST * 3,
+     [{"kind": "paused", "paused": 2, "slots": 4},
+      {"kind": "judged", "slots": 4, "empty": 3, "texts": 1, "names": 0, "tags": 0, "short": 0}]),
     (AUDIT, b"C201 2140 4849 2020\n",
      [{"kind": "incomplete", "texts": 1, "complete": 0},
       {"kind": "judged", "slots": 1, "empty": 0, "texts": 1, "names": 0, "tags": 0, "short": 0}]),
@@ -647,7 +665,8 @@ class WhereNotesGo(ProgramCase):
             fine = status == 0 and b"C201 " in given and b"silent" not in shown and b"held" not in shown
             if fine and "C201" in words and not words.startswith(("encode", "sim")):
                 told = noted(words, given)[2]
-                wanted = told if re.fullmatch("rdsrt: judged in .*\n", told) and words.startswith("audit") else ""
+                judged = re.fullmatch("(rdsrt: in .* no text segment had come .*\n)?rdsrt: judged in .*\n", told)
+                wanted = told if judged and words.startswith("audit") else ""
                 if name == "second segment alone":
                     wanted = note("segments of 1 text came, and no text was complete: 1 lacked a segment before the carriage "
                                   "return")

@@ -16,6 +16,7 @@ use crate::audit_log::{Auditing, Stop};
 use crate::person::fault_notes::{FaultNotes, FaultPlace};
 use crate::person::harmless::AllChanges;
 use crate::person::notes::{LogNotes, NoNote};
+use crate::person::pauses::Pauses;
 use crate::verdict::{ANSWER_ROOM, push_no, push_yes};
 use rds_audit::{Audit, AuditFault, FaultSet};
 use rds_block::Blocks;
@@ -39,6 +40,7 @@ pub(crate) struct Auditor {
     heard: Heard,
     faults: FaultNotes,
     changes: AllChanges,
+    pauses: Pauses,
     no: Option<NoNote>,
 }
 
@@ -77,7 +79,9 @@ impl TakesLines for Auditor {
                 // Prover: a value is copied by a new name before its second use (PROVER.md, "Workarounds").
                 let heard = read;
                 let failed = read;
+                let came = read;
                 self.heard.slot(self.pi, heard);
+                self.pauses.take(slot, came);
                 let found = self.audit.all_faults(read);
                 self.slots += 1;
                 // in both branches: so a slot without a fault is asked for faults once
@@ -105,7 +109,6 @@ impl Auditor {
     ghost use Rattle.rds_log.specs.Inside.Auditor.{HasAudited};
 
     /// Starts a log.
-    #[tactic(auto, using(crate::proofs::Audited::audited_none))]
     pub(crate) fn new(how: Auditing) -> Auditor
         ensures none { result.slots ≡ 0 }
         ensures wants { result.is_done ≡ false }
@@ -121,6 +124,7 @@ impl Auditor {
             heard: Heard::new(),
             faults: FaultNotes::new(),
             changes: AllChanges::new(how.stop),
+            pauses: Pauses::new(how.pi, how.dwell),
             no: None,
         }
     }
@@ -170,6 +174,7 @@ impl Auditor {
         notes.no = self.no;
         notes.texts = self.audit.texts();
         notes.complete = self.audit.complete_texts();
+        notes.paused = self.pauses.before(self.slots);
         notes.names = self.audit.names();
         notes.tags = self.audit.tags();
         let (texts, names) = self.changes.ended();

@@ -4,4 +4,5 @@ pub(crate) mod fault_notes;
 pub(crate) mod harmless;
 pub(crate) mod incomplete;
 pub(crate) mod notes;
+pub(crate) mod pauses;
 pub(crate) mod segment_cause;

@@ -11,8 +11,8 @@ use rds_script::{EarlySet, ScriptNotes};
 use std::io::{self, ErrorKind};
 
 /// The most notes of a run: one for each kind of fault of a text, of a name and of tags before the first text, and at
-/// most fourteen others.
-const MOST_NOTES: usize = 29;
+/// most fifteen others.
+const MOST_NOTES: usize = 30;
 
 /// The texts of a recording that its start and its end may cut.
 const CUT_TEXTS: u64 = 2;
@@ -166,6 +166,8 @@ pub(crate) enum Note<'a> {
     NothingToRead(u64, &'a Request<'a>),
     /// Texts came that were not complete.
     Incomplete(Incomplete),
+    /// In so many of so many slots no text segment had come for M slots.
+    Paused(u64, u64, &'a Request<'a>),
     /// What was judged.
     Judged(Judged),
     /// A log with times has a group of the programme in fewer than nine tenths of its slots: so many of so many.
@@ -413,6 +415,12 @@ fn note_judged<'a>(run: &'a Run<'a>, short: u64, notes: &mut Notes<'a>) {
                 complete,
                 endless: None,
             }),
+            notes,
+        );
+    }
+    if log.paused > 0 {
+        add(
+            Note::Paused(log.paused, log.input.slots, run.request),
             notes,
         );
     }

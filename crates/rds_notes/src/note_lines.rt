@@ -45,6 +45,7 @@ pub(crate) fn push_note(note: Note<'_>, line: &mut Line) {
         Note::NoGroup(other) => push_no_group(other, line),
         Note::NothingToRead(short, request) => push_nothing(short, request, line),
         Note::Incomplete(incomplete) => push_incomplete(incomplete, line),
+        Note::Paused(paused, slots, request) => push_paused(paused, slots, request, line),
         Note::Judged(judged) => push_judged(judged, line),
         Note::Few(groups, slots, pi) => push_few(groups, slots, pi, line),
         Note::ShortTexts(short) => push_short(short, "", "read", line),
@@ -67,6 +68,12 @@ pub(crate) fn push_advice(note: Note<'_>, line: &mut Line) {
             let _ = write!(line, "Put rdsrt slots before this command");
         }
         Note::Breaks(breaks) => push_breaks_advice(breaks, line),
+        Note::Paused(..) => {
+            let _ = write!(
+                line,
+                "Keep the text on their displays (rdsrt decode --keep)"
+            );
+        }
         Note::TagsElsewhere(elsewhere) if elsewhere.may_be_read => {
             let _ = write!(line, "Give --rtplus ");
             push(group_name(elsewhere.code).as_slice(), line);
@@ -129,6 +136,17 @@ fn push_incomplete(incomplete: Incomplete, line: &mut Line) {
             "{lacking} lacked a segment before the carriage return"
         );
     }
+}
+
+/// Appends in how many slots receivers show no text, since its segments pause.
+fn push_paused(paused: u64, slots: u64, request: &Request<'_>, line: &mut Line) {
+    let _ = write!(line, "in {paused} of ");
+    push_count(slots, "slot", "slots", line);
+    let m = request.dwell.get();
+    let _ = write!(
+        line,
+        " no text segment had come for M = {m} slots: receivers with this M show no text then"
+    );
 }
 
 /// Appends what an audit judged.

@@ -68,6 +68,11 @@ pub(crate) fn push_object(note: Note<'_>, sentence: &[u8], advice: &[u8], line: 
             push_number("complete", incomplete.complete, line);
             push_known("endless", incomplete.endless, line);
         }
+        Note::Paused(paused, slots, _) => {
+            push_kind("paused", line);
+            push_number("paused", paused, line);
+            push_number("slots", slots, line);
+        }
         Note::Judged(judged) => {
             push_kind("judged", line);
             push_number("slots", judged.slots, line);

@@ -150,6 +150,8 @@ pub struct LogNotes {
     pub complete: u64,
     /// The texts that came before `decode` met a complete one.
     pub incomplete: Option<IncompleteTexts>,
+    /// The number of slots to which no text segment came for M slots, after the first one.
+    pub paused: u64,
     /// The number of names.
     pub names: u64,
     /// The number of groups with tags.
@@ -167,6 +169,7 @@ impl LogNotes {
             texts: 0,
             complete: 0,
             incomplete: None,
+            paused: 0,
             names: 0,
             tags: 0,
             faults: FaultNotes::new(),
