@@ -189,7 +189,7 @@ impl Cutter {
 
 /// Returns the place of the first line feed.
 #[inline(always)]
-pub(crate) fn line_end(bytes: &[u8]) -> Option<usize>
+pub fn line_end(bytes: &[u8]) -> Option<usize>
     ensures some { IfSome result (EndsAt bytes.now) }
     ensures none { IfNone result (IsLine bytes.now) }
 {

@@ -13,6 +13,7 @@ mod person;
 mod run_log;
 mod source;
 
+pub use cutter::line_end;
 pub use gather_log::gather;
 pub use line_stamp::{TIME, comment_of, stamp_of};
 pub use log_line::{DECIDING, LogLine};

@@ -7,13 +7,9 @@ use Rattle.std.specs.Prelude.{codes}
 use lib.ListN.{length-map}
 use Rattle.rds_block.specs.declared.group.Group.{Group}
 use Rattle.rds_charset.specs.Printed.{printed}
-use Rattle.rds_fields.specs.declared.head.Head.{Head}
 use Rattle.rds_fields.specs.declared.message.Message.{Message}
-use Rattle.rds_lines.specs.LogSlots.{IsLogOf}
 use Rattle.rds_lines.specs.OneLog.{same_log}
-use Rattle.rds_log.specs.Audit.{WholePasses, spacing}
 use Rattle.rds_log.specs.LogWrites.{AreDisplays, IsDisplay, LogWrites, plain, tuning_of}
-use Rattle.rds_log.specs.declared.audit_log.Auditing.{Auditing}
 use Rattle.rds_log.specs.declared.decode_log.Decoding.{Decoding}
 use Rattle.rds_receiver.specs.Confirmed.{counted}
 use Rattle.rds_receiver.specs.Kept.{AreShowings, IsShowing, Moment, Showing, displayed, kept, name_moment, text_moment}
@@ -25,13 +21,13 @@ use Rattle.rds_receiver.specs.declared.why.Whys.{Whys}
 use Rattle.rds_safety.specs.Late.{HasEntry}
 use Rattle.rds_view_lines.specs.Output.{Display, changes_of, none_content, quoted, tag_content, text_content, why_name, why_text}
 use Rattle.rds_view_lines.specs.ViewParts.{Name, Part, Tag1, Tag2, Text, part_content, part_name}
-use Rattle.rds_wire.specs.Headline.{Displays, Headline, IsSafe, Reaches, Receiver, WasOnAir, WentWith, in_quotes, slots}
-use Rattle.rds_wire.specs.Kept.{IsRecent, NothingNewIsKept, WasDisplayed, WhatIsKeptWasDisplayed, WhatIsKeptWasOnAir}
+use Rattle.rds_wire.specs.Headline.{Displays, Headline, IsSafe, Receiver, WasOnAir, WentWith, in_quotes, slots}
+use Rattle.rds_wire.specs.Kept.{NothingNewIsKept, WasDisplayed, WhatIsKeptWasDisplayed, WhatIsKeptWasOnAir}
 use Rattle.rds_wire.specs.Kept.{keeping}
 use Rattle.rds_wire.specs.NothingNew.{NothingNew, decoding}
 use Rattle.rds_wire.specs.Received.{first_entries}
 use Rattle.rds_wire.proofs.Headline.{displays_shows, newest_displays, not_nothing}
-use Rattle.rds_wire.proofs.NothingNew.{has_value, heard_first}
+use Rattle.rds_wire.proofs.NothingNew.{has_value}
 use Rattle.rds_wire.proofs.Reached.{slots_long}
 use Rattle.rds_wire.proofs.Reading.{IsContentOf, newest_line}
 use Rattle.rds_wire.proofs.Receiving.{display_in, displays_long, first_length, view_in}

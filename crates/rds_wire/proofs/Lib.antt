@@ -10,6 +10,7 @@ pub mod WorkedRows
 pub mod ByRows
 pub mod MissesNothing
 pub mod Reached
+pub mod Delivered
 pub mod HeadlineRows
 pub mod Headline
 pub mod NothingNew

@@ -10,8 +10,8 @@ use Rattle.rds_audit.specs.declared.log_start.LogStart.{LogStart}
 use Rattle.rds_audit.specs.declared.log_start.LogStart.TheVariants.{Complete, Running}
 use Rattle.rds_audit.specs.Recording.{from_first_text, judged_as, preceded}
 use Rattle.rds_audit.specs.Rules.{LogPasses}
-use Rattle.rds_view_lines.specs.Output.{Display, changes_of, quoted, text_content, why_name, why_text}
-use Rattle.rds_view_lines.specs.ViewParts.{Name, Part, Text, line_in, part_content, part_name}
+use Rattle.rds_view_lines.specs.Output.{Display, quoted, text_content, why_name, why_text}
+use Rattle.rds_view_lines.specs.ViewParts.{Name, Part, Text, part_content, part_name}
 use Rattle.std.specs.Prelude.{drop}
 use Rattle.std.proofs.lemmas.List.{drop-map}
 use lib.ListN.{length-map}
@@ -45,8 +45,7 @@ use Rattle.rds_wire.proofs.Headline.{displays_shows, newest_displays, not_nothin
 use Rattle.rds_wire.proofs.MissesNothing.{IsShownByWhole, TagsSendNothing, by_whole, by_whole_recorded, names_agree}
 use Rattle.rds_wire.proofs.MissesNothing.{texts_agree}
 use Rattle.rds_wire.proofs.Reached.{heard_late, origins_of, slots_long}
-use Rattle.rds_wire.proofs.Reading.{IsContentOf, contains_from_in, in_from_contains, HasNewest, newest_line, In}
-use Rattle.rds_wire.proofs.Reading.{lines_of}
+use Rattle.rds_wire.proofs.Reading.{IsContentOf, HasNewest, newest_line}
 use Rattle.rds_wire.proofs.Receiving.{displays_long, first_length, late_groups, own_heard, view_in}
 use Rattle.rds_wire.proofs.Wired.{entry_at, shown as shown_by}
 

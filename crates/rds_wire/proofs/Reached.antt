@@ -38,7 +38,7 @@ first_joined : (x : ℕ) (parts others : List (List ℕ)) → 0 < length parts
 first_joined x [] others some = absurd (omega (arith, some))
 first_joined x (part ∷ parts) others some = refl
 
-lines_joined : (xs ys : List ℕ) → lines (xs ++ 10 ∷ ys) ≡ lines xs ++ lines ys
+pub lines_joined : (xs ys : List ℕ) → lines (xs ++ 10 ∷ ys) ≡ lines xs ++ lines ys
 lines_joined [] ys = refl
 lines_joined (x ∷ xs) ys = by (lines_joined xs ys) (x == 10)
   where
@@ -49,7 +49,7 @@ lines_joined (x ∷ xs) ys = by (lines_joined xs ys) (x == 10)
     by rest false = ap (onto_first x) rest
         ∙ first_joined x (lines xs) (lines ys) (omega (arith, length-slice_split (λ b. b == 10) xs))
 
-no_feed : (line : Line) → IsLine line → All (λ b. (b == 10) ≡ false) line
+pub no_feed : (line : Line) → IsLine line → All (λ b. (b == 10) ≡ false) line
 no_feed [] is = All-nil (λ b. (b == 10) ≡ false)
 no_feed (b ∷ rest) is = grind (arith, nat_tests, no_feed rest)
 

@@ -1,11 +1,8 @@
 -- The headline on a call.
-use Rattle.std.specs.Prelude.{◌<◌, ◌+◌, ℕ, List, length}
-use Rattle.rds_fields.specs.declared.head.Head.{Head}
-use Rattle.rds_wire.specs.Headline.{IsSafe, Reaches, slots}
-use Rattle.rds_wire.specs.Wire.{IsHead}
+use Rattle.std.specs.Prelude.{◌<◌, ℕ, List}
+use Rattle.rds_wire.specs.Headline.{IsSafe}
 
--- if this log of a script reaches two receivers, these two outputs are safe in each slot
-abbrev pub IsSafeIfReached : Head → ℕ → ℕ → List ℕ → List ℕ → List ℕ → List ℕ → List ℕ → List ℕ → Type 0
-IsSafeIfReached head m k script log received other output other_output =
-    IsHead head → Reaches head.pi k log received → Reaches head.pi k log other → (t : ℕ) → t < length (slots received)
-    → t < length (slots other) → IsSafe (m + k) t script output other_output
+-- the outputs of two receivers of the log of a script are safe in each slot that both of them have
+abbrev pub IsSafeTrial : ℕ → ℕ → ℕ → List ℕ → List ℕ → List ℕ → Type 0
+IsSafeTrial d slots other_slots script output other =
+    (t : ℕ) → t < slots → t < other_slots → IsSafe d t script output other

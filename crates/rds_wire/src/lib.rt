@@ -5,6 +5,7 @@
 //! file, and [`trial`] on a call.
 #![tactic(auto)]
 
+mod arrivals;
 mod laws;
 mod trials;
 
@@ -15,4 +16,4 @@ pub use laws::{
     what_passes_is_safe_if_heard_twice, what_passes_is_safe_on_the_wire,
     what_the_program_encodes_it_decodes_safely, what_was_on_air,
 };
-pub use trials::{Tried, trial};
+pub use trials::{Receiver, Tried, trial};
