@@ -77,9 +77,9 @@
  *     rdsrt_receiver_init               64   32    rdsrt_audit_init_running          32   32
  *     rdsrt_receiver_init_confirming    32   32    rdsrt_audit_init_with             32   32
  *     rdsrt_receiver_slot              256  192    rdsrt_audit_slot                 352  352
- *     rdsrt_receiver_view              256  224    rdsrt_audit_all_faults           384  416
+ *     rdsrt_receiver_view              224  192    rdsrt_audit_all_faults           384  416
  *     rdsrt_receiver_held               32   32    rdsrt_audit_passed                32   32
- *     rdsrt_display_init                32   32    rdsrt_display_slot               320  320
+ *     rdsrt_display_init                32   32    rdsrt_display_slot               288  288
  *     rdsrt_slot_time                   32   32    rdsrt_audit_texts                 32   32
  *     rdsrt_time_in                    160  128    rdsrt_audit_names                 32   32
  *     rdsrt_lost_slots                  32   32    rdsrt_audit_texts_turn_the_flag   32   32
