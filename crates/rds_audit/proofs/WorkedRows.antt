@@ -13,6 +13,14 @@ use Rattle.rds_audit.specs.declared.text_form.TextForm.TheVariants.{Plain}
 use Rattle.rds_audit.specs.Lengths.{measure, those}
 use Rattle.rds_audit.specs.Listing.{first_fault, slot_adds}
 use Rattle.rds_audit.specs.Recording.{judged_as}
+use Rattle.std.proofs.Common.{All, arith, ◌+◌, ◌≤◌}
+use Rattle.rds_audit.specs.AuditLaws.{IsSafeLog}
+use Rattle.rds_audit.specs.Broken.{BreaksByFragment}
+use Rattle.rds_audit.specs.Reigns.{Reign}
+use Rattle.rds_audit.specs.declared.text_form.TextForm.{TextForm}
+use Rattle.rds_safety.specs.Lawful.{Kind}
+use Rattle.rds_safety.specs.Plans.{Plans}
+use Rattle.rds_safety.specs.Safe.{AreSafeViews, Listener, ListensTo}
 
 abbrev Log : Type 0
 Log = List (Option Message)
@@ -205,3 +213,16 @@ random_six : faults 5 (
     ≡ (2, EarlyFlag) ∷ (3, EarlyTag) ∷ (12, EarlyTag) ∷ (13, NotOneText) ∷ []
 unfolding measure those
 random_six = refl
+
+-- ---- what a yes and a fault say
+
+-- a safe log makes each slot safe by some plans
+safe_log : (form : TextForm) (m k : ℕ) (log : List (Option Message)) → IsSafeLog form m k log
+    → (t : ℕ) (receivers : List Listener) → All (ListensTo k m t log) receivers
+    → (plans : Plans) × AreSafeViews (m + k) m t plans log receivers
+safe_log form m k log is t receivers listen = (is.plans, is.safe t receivers listen)
+
+-- a broadcast that can have started when its reign opened has no early flag
+not_early : (kind : Kind) (r : Reign) (older : List Reign) → r.start ≤ r.opened
+    → BreaksByFragment kind (r ∷ older) EarlyFlag → ⊥
+not_early kind r older started early = omega (arith, started, early)

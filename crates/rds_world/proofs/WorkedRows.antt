@@ -13,6 +13,17 @@ use Rattle.rds_world.specs.Due.{IsDueBack}
 use Rattle.rds_world.specs.FlagStation.{IsSafeAfter}
 use Rattle.rds_world.specs.Slots.{received}
 use Rattle.rds_world.specs.Wrong.{IsFit, wrong_of}
+use Rattle.std.specs.List.{AllZip}
+use Rattle.std.proofs.Common.{length}
+use Rattle.rds_receiver.specs.Shown.{ShownView}
+use Rattle.rds_receiver.specs.declared.receiver.Receiver.{Receiver}
+use Rattle.rds_safety.specs.Safe.{AreSafeViews}
+use Rattle.rds_world.specs.Event.{Event}
+use Rattle.rds_world.specs.SafeSlots.{OnlyWhatWasOnAirIsShown, listeners}
+use Rattle.rds_world.specs.Slots.{log, plans_of}
+use Rattle.rds_world.specs.State.{distance}
+use Rattle.rds_world.specs.WorldAt.{ReceiverShows}
+use Rattle.rds_world.specs.declared.world.Config.{Config}
 
 -- zero slots late, a receiver hears what is sent in the slot, and its origin is the slot
 received_now : (slot : ℕ) (newest : Option Message) (before : List (Option Message)) (input : Input)
@@ -80,3 +91,13 @@ two_sets_after_a_restart = (tt, tt)
 
 no_restart_after_a_set : RestartsComeFirst (End true ∷ Begin ∷ Set (0x41 ∷ []) ∷ End true ∷ []) → ⊥
 no_restart_after_a_set first = first.0
+
+-- ---- what the headline of a world says
+
+-- of the views that its receivers show it says that they are safe, in full
+world_says : (config : Config) (newest : Event) (before : List Event) (receivers : List Receiver) (views : List ShownView)
+    → OnlyWhatWasOnAirIsShown config (newest ∷ before) receivers → config.kind.is_flag_alone ≡ false
+    → AllZip ReceiverShows receivers views
+    → AreSafeViews (distance config) config.dwell (length before) (plans_of (distance config) (newest ∷ before))
+    (log (distance config) (newest ∷ before)) (listeners config (newest ∷ before) 0 views)
+world_says config newest before receivers views says kind shows = says kind views shows
