@@ -73,6 +73,13 @@ class Compilers(Case):
     def test_clang(self):
         self.build_and_run("clang", ["-std=c11"])
 
+    def test_stored_structs_keep_their_bytes(self):
+        """COMPATIBILITY promises them for one RDSRT_ABI. If a layout changes, change RDSRT_ABI, and then the shown file."""
+        program = os.path.join(temporary_folder(self), "stored")
+        words = ["cc", "-std=c11", *c_library.WARNINGS, "-I", path("include"), path("tests/c/stored.c"), ARCHIVE, "-o", program]
+        self.check("it is built", output(words), (0, b""))
+        self.check("the bytes of each struct", output([program]), (0, bytes_of("tests/shown/stored_structs.txt")))
+
     def test_sanitizers(self):
         self.build_and_run("cc", ["-std=c11", *c_library.SANITIZED])
 
