@@ -519,6 +519,26 @@ class Warnings(ProgramCase):
             "fault row 2 (line 2): expected 4 fields (COMMAND,ARGUMENT,FREE,RECEPTIONS), found 1"))
 
 
+# segments that differ at one address, and then at a later one: a receiver that loses slot 4 holds parts of two texts
+TWO_PLACES = b"".join(b"C201 21%s\n" % it for it in (b"40 4141 4141", b"41 4242 0D20", b"40 4343 4343", b"41 4242 0D20",
+                                                     b"40 4141 4141", b"41 4444 0D20"))
+# a command, its input, and words that its notes have, or (after a -) do not have: faults of notes that no other row would see
+SAYS = [
+    (f"{AUDIT} --all --m 8", TWO_PLACES, ["2 of 3 texts: Changed", "in 1 of them no receiver shows a mix"]),
+    (f"{AUDIT} --quiet", HI.rstrip() + b" 1.0\n" + HI.rstrip() + b" 11.0\n", ["-span"]),
+    (DECODE, HI + b"C201 2140 4849 ----\nC201 2140 ---- 0D20\n", ["2 of 3 groups of C201 had one lost block"]),
+    # the newest group 3A counts
+    (DECODE, HI + b"".join(b"C201 %s 2002 0000\n" % it for it in (b"C008", b"D008"))
+     + b"C201 3018 0000 4BD7\nC201 301A 0000 4BD7\n", ["Give --rtplus 13A"]),
+    (f"{AUDIT} --json-notes", b"C201 A140 4849 2020\nC201 A140 4849 2121\n", ['"of":"name"']),
+    (f"{AUDIT} --padded --m 8", HI + b"C201 2150 594F 0D20\n" + HI, ["rdsrt audit --all --padded --pi C201"]),
+    (f"{AUDIT} --padded --m 2", HI + LOST + b"C201 B148 2002 0000\n", ["1 pair of tags"]),
+    # one of the times has a fraction
+    (f"{AUDIT} --m 8", HI.rstrip() + b" 12.5\nC201 2150 594F 0D20 13\n" + HI.rstrip() + b" 13\n", ["-may be false"]),
+    # a pause of M slots begins another text
+    (f"{DECODE} --m 2", b"C201 2140 4849 2020\n" + LOST + b"C201 2140 4849 2020\n", ["segments of 2 texts came"]),
+]
+
 # a command, its input, and its notes as objects without their sentences
 OBJECTS = [
     (f"{DECODE}", b"bad\n", [{"kind": "fault", "fault": "line", "line": 1}]),
@@ -658,6 +678,14 @@ class WhereNotesGo(ProgramCase):
                 self.check(f"output with {call}: {words}", (done.returncode, done.stdout), wanted)
             done = subprocess.run(["bash", "-c", f'"$0" {words} >&- 2>&-', PROGRAM], input=given, timeout=SECONDS)
             self.check(f"both closed: {words}", done.returncode in (wanted[0], 1), True)
+
+    def test_what_notes_say_of_rare_inputs(self):
+        for words, given, says in SAYS:
+            told = noted(words, given)[2]
+            for it in says:
+                self.check(f"{words}: {it}", it.lstrip("-") in told, not it.startswith("-"), given)
+        _, lost, _ = noted(f"{WITNESS} --m 8 --lose 4", TWO_PLACES)
+        self.check("the mix that one of the faults makes", lost, b'5 text "CCCCDD"\n')
 
     def test_rows_that_end_well_have_no_note(self):
         """Worked rows that end well and are of the programme that is asked for have no note."""
