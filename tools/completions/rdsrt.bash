@@ -18,7 +18,7 @@ _rdsrt() {
         audit) offered='--pi --m --rtplus --k --running --padded --all --quiet --json-notes --help' ;;
         slots) offered='--pi --grain --m --quiet --json-notes --help' ;;
         encode) offered='--pi --m --rtplus --k --pty --tp --quiet --json-notes --help' ;;
-        sim) offered='--pi --m --rtplus --k --pty --tp --confirm --flag-alone --why --quiet --json-notes --help' ;;
+        sim) offered='--pi --m --rtplus --k --pty --tp --confirm --flag-alone --why --keep --quiet --json-notes --help' ;;
     esac
     # a word that begins no option is the file to read, which bash completes
     case $command:$word in :* | help:* | *:-*) ;; *) return ;; esac

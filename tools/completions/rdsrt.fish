@@ -18,7 +18,7 @@ complete -c rdsrt -n "$no_help decode audit witness slots encode sim" -s m -l m 
 complete -c rdsrt -n "$no_help decode audit witness encode sim" -l rtplus -x -a '5A 6A 7A 8A 9A 11A 12A 13A' -d 'Group type of the RT+ tags'
 complete -c rdsrt -n "$no_help decode sim" -l confirm -x -d 'Shows only what was received twice within W slots, 2 to 255'
 complete -c rdsrt -n "$no_help decode sim" -l why -d 'Says why a text or a name is not shown any more'
-complete -c rdsrt -n "$no_help decode" -l keep -x -d 'Keeps a text or a name on the display for N more slots, 0 to 65535'
+complete -c rdsrt -n "$no_help decode sim" -l keep -x -d 'Keeps a text or a name on the display for N more slots, 0 to 65535'
 complete -c rdsrt -n "$no_help sim" -l flag-alone -d 'The receivers follow the A/B flag alone, as radios without a dwell do'
 complete -c rdsrt -n "$no_help witness" -l lose -x -d 'Prints the mixes of a receiver that loses these slots'
 complete -c rdsrt -n "$no_help witness" -l flag-alone -d 'The receiver of --lose follows the A/B flag alone, as radios without a dwell do'

@@ -179,7 +179,8 @@ station_app name = with_rule (with_rule (late_app name) pty_rule) tp_rule
 
 -- the subcommand that simulates a station and its receivers
 unfoldable pub sim_app : Text → App
-sim_app name = with_rule (with_rule (with_rule (station_app name) confirm_rule) flag_alone_rule) why_rule
+sim_app name =
+    with_rule (with_rule (with_rule (with_rule (station_app name) confirm_rule) flag_alone_rule) why_rule) keep_rule
 
 -- `rdsrt`, which has a version and requires a subcommand
 abbrev pub top_app : App
@@ -315,7 +316,10 @@ task_in name rows =
     else if bytes_eq name (codes "encode") then with_station Encode rows
     else if bytes_eq name (codes "sim")
     then option_and_then
-    (λ window. with_station (λ programme late. Simulate programme late window (flag_alone_in rows) (why_in rows)) rows)
+    (λ window. option_and_then
+    (λ keep. with_station
+    (λ programme late. Simulate programme late window (flag_alone_in rows) (why_in rows) keep) rows)
+    (keep_in rows))
     (window_in rows)
     else if bytes_eq name (codes "audit")
     then option_map (λ late. Audit late (running_in rows) (padded_in rows) (all_in rows)) (late_in rows)

@@ -53,7 +53,7 @@ encoding dwell pty =
 
 abbrev pub simulating : ℕ → ℕ → Bool → ℕ → Requested
 simulating dwell pty tp late = record {
-  task = Simulate (record { pty = pty; tp = tp }) late None false false;
+  task = Simulate (record { pty = pty; tp = tp }) late None false false 0;
   pi = codes "C201";
   rtplus = 11;
   lose = [];
@@ -64,7 +64,7 @@ simulating dwell pty tp late = record {
 -- the same with a window, without these options
 abbrev pub simulating_confirmed : ℕ → ℕ → Requested
 simulating_confirmed dwell window = record {
-  task = Simulate (record { pty = 0; tp = false }) 0 (Some window) false false;
+  task = Simulate (record { pty = 0; tp = false }) 0 (Some window) false false 0;
   pi = codes "C201";
   rtplus = 11;
   lose = [];
@@ -72,10 +72,21 @@ simulating_confirmed dwell window = record {
   file = None;
 }
 
+-- the same for displays that keep a text and a name, without these options
+abbrev pub simulating_kept : ℕ → Requested
+simulating_kept keep = record {
+  task = Simulate (record { pty = 0; tp = false }) 0 None false false keep;
+  pi = codes "C201";
+  rtplus = 11;
+  lose = [];
+  dwell = default_dwell;
+  file = None;
+}
+
 -- the simulation of radios that follow the flag bit alone, with reasons or without
 abbrev pub simulating_flag_alone : ℕ → Bool → Requested
 simulating_flag_alone dwell why = record {
-  task = Simulate (record { pty = 0; tp = false }) 0 None true why;
+  task = Simulate (record { pty = 0; tp = false }) 0 None true why 0;
   pi = codes "C201";
   rtplus = 11;
   lose = [];

@@ -224,12 +224,12 @@ fn flag_alone<'a>(alloc: Global) -> Arg<'a>
     flag(alloc, "flag-alone", help).long_help(
         "The receivers follow the A/B flag alone, as radios without a dwell do: they drop a\n\
          text only after 65,535 slots without a part of it. The station keeps its M, and with\n\
-         --confirm its spacing. The receivers have no window then, and they may get wrong\n\
-         groups. Prints too what is on air, as in `9 air text \"HI\"`. If what a receiver shows\n\
-         was not on air in the last M + K slots, with --confirm in the last M + K + W - 1, a\n\
-         line says which it is: `12 r0 text mix` if nobody sent it so far, `old` if it was on\n\
-         air before, `replaced` if it is a tag that the station sent for this text and has\n\
-         replaced since.",
+         --confirm its spacing. The receivers have no window then, they may get wrong groups,\n\
+         and --keep changes nothing. Prints too what is on air, as in `9 air text \"HI\"`. If\n\
+         what a receiver shows was not on air in the last M + K slots, with --confirm in the\n\
+         last M + K + W - 1, a line says which it is: `12 r0 text mix` if nobody sent it so\n\
+         far, `old` if it was on air before, `replaced` if it is a tag that the station sent\n\
+         for this text and has replaced since.",
     )
 }
 
@@ -585,7 +585,7 @@ fn simulate<'a>(alloc: Global) -> Result<Command<'a>, AllocError>
                    1 r0 text \"HI\"",
     };
     let station = station(alloc, "sim", page)?.arg(confirm(alloc))?;
-    shown(alloc, station)
+    shown(alloc, station)?.arg(keep(alloc))
 }
 
 /// Adds the options on what receivers show.

@@ -3,8 +3,9 @@ ghost use Rattle.std.specs.Prelude.{[], codes, false, true};
 ghost use Rattle.rds_cli.specs.CommandLine.{AskFor, AskForHelp, default_dwell};
 ghost use Rattle.rds_cli.specs.Examples.{AreNotTaken, CallForHelp, auditing, auditing_padded};
 ghost use Rattle.rds_cli.specs.Examples.{auditing_running, confirming, decoding};
-ghost use Rattle.rds_cli.specs.Examples.{decoding_kept, decoding_why, encoding, filling, filling_one, from_file, listing_running};
-ghost use Rattle.rds_cli.specs.Examples.{losing, simulating, simulating_flag_alone};
+ghost use Rattle.rds_cli.specs.Examples.{decoding_kept, decoding_why, encoding, filling, filling_one, from_file};
+ghost use Rattle.rds_cli.specs.Examples.{listing_running};
+ghost use Rattle.rds_cli.specs.Examples.{losing, simulating, simulating_flag_alone, simulating_kept};
 ghost use Rattle.rds_cli.specs.Examples.{simulating_confirmed, tagged_in, typed};
 ghost use Rattle.rds_cli.specs.Examples.{witnessing};
 
@@ -74,6 +75,8 @@ pub fn words_of_the_examples()
     ensures sim_why { AskFor (typed (codes "rdsrt sim --pi C201 --m 8 --why --flag-alone"))
         (simulating_flag_alone 8 true) }
     ensures sim_confirm { AskFor (typed (codes "rdsrt sim --pi C201 -m 64 --confirm 65")) (simulating_confirmed 64 65) }
+    ensures sim_keep { AskFor (typed (codes "rdsrt sim --pi C201 --keep 685")) (simulating_kept 685) }
+    ensures sim_long_keep { AreNotTaken (typed (codes "rdsrt sim --pi C201 --keep 65536")) }
     ensures sim_quiet { AskFor (typed (codes "rdsrt sim --quiet --pi C201 --pty 10 --tp"))
         (simulating default_dwell 10 true 0) }
     ensures slots_json_notes { AskFor (typed (codes "rdsrt slots --json-notes --quiet")) (filling default_dwell 20) }

@@ -50,6 +50,8 @@ pub enum Task {
         flag_alone: bool,
         /// Whether the line of a text or a name that is not shown any more says why.
         says_why: bool,
+        /// For how many slots the displays keep a text and a name that the receiver does not show any more.
+        keep: u16,
     },
     /// Print whether a log of all groups that were sent passes the audit.
     Audit {
@@ -188,12 +190,14 @@ fn task_of(name: &str, inner: &ArgMatches<'_>) -> Option<Task>
         "encode" => Some(Task::Encode(programme_of(inner)?, slots_of(inner, "k")?)),
         "sim" => {
             let window = window_of(inner)?;
+            let keep = keep_of(inner)?;
             Some(Task::Simulate {
                 programme: programme_of(inner)?,
                 late: slots_of(inner, "k")?,
                 window,
                 flag_alone: is_given(inner, "flag-alone"),
                 says_why: is_given(inner, "why"),
+                keep,
             })
         }
         "audit" => Some(Task::Audit {

@@ -17,7 +17,7 @@ use rds_block::Blocks;
 use rds_fields::TagGroup;
 use rds_io::{Lines, TellingWrite, WriteFault};
 use rds_lines::{Heard, LogLine, News, OUTPUT_ROOM, Source, TakesLines};
-use rds_receiver::{Keeping, Kept, Receiver, Whys};
+use rds_receiver::{Kept, Receiver, Whys};
 use rds_view_lines::{KeptView, Prefix, SLOT_ROOM, Shown, show};
 
 /// Feeds a receiver slot by slot, and appends a line for each part of its view that changed. The line of a text or a
@@ -43,10 +43,7 @@ impl ViewLines {
             receiver,
             says_why,
             slot: 0,
-            shown: Shown {
-                view: KeptView::new(),
-                keeping: Keeping::new(keep),
-            },
+            shown: Shown::new(keep),
         }
     }
 

@@ -28,6 +28,7 @@ use Rattle.rds_io.specs.ReadFailed.{SomeReadFailed}
 use Rattle.rds_script.specs.Play.{Plays, Reading, with_form}
 use Rattle.rds_io.specs.declared.fault.LogFault.{LogFault}
 use Rattle.rds_io.specs.declared.fault.LogFault.TheVariants.{BadLine, BadRow, Read, Write, TooLong, Memory}
+use Rattle.rds_script.specs.declared.form.Form.{Form}
 use Rattle.rds_script.specs.declared.form.Form.TheVariants.{Log, Simulation}
 use Rattle.rds_witness.specs.Spans.{bursts_in}
 use Rattle.rds_witness.specs.Witness.{Loses, Witnesses}
@@ -74,7 +75,7 @@ PutsLine line w = (r : Result (Unit {0}) WriteFault) × Puts w line r
 abbrev pub mark_of : Task → List ℕ
 mark_of (Decode window why keep) = []
 mark_of (Encode programme late) = codes "# "
-mark_of (Simulate programme late window alone why) = []
+mark_of (Simulate programme late window alone why keep) = []
 mark_of (Audit late running padded all) = []
 mark_of Witness = []
 mark_of (Lose alone) = []
@@ -204,12 +205,11 @@ pub record RefusesWindow (task : Task) (w : Traffic) (status : ℕ) : Type 0 whe
   pub status_is : status ≡ 2
   pub told : TellsFault task (codes "fault confirm") w
 
--- the simulation of this station ran, with reasons or without, and with tags in groups nA; without a station its window
--- was refused, and nothing was read
-abbrev pub SimulationRuns : Bool → ℕ → Option Config → Task → ReaderOver → Traffic → ℕ → Type 0
-SimulationRuns why n None task r w status = RefusesWindow task w status × r.Untouched
-SimulationRuns why n (Some station) task r w status =
-    EngineRuns (Plays (with_form (Simulation why n) station) (2 ^ 32) (script_in r)) done task w status
+-- the simulation of this station ran in this form; without a station its window was refused, and nothing was read
+abbrev pub SimulationRuns : Form → Option Config → Task → ReaderOver → Traffic → ℕ → Type 0
+SimulationRuns form None task r w status = RefusesWindow task w status × r.Untouched
+SimulationRuns form (Some station) task r w status =
+    EngineRuns (Plays (with_form form station) (2 ^ 32) (script_in r)) done task w status
 
 -- the slots to lose were refused: they are no spans in ascending order
 pub record RefusesSpans (task : Task) (w : Traffic) (status : ℕ) : Type 0 where
@@ -239,9 +239,9 @@ TaskRuns (Encode programme late) lose l r w status =
     EngineRuns
     (Plays (with_form (Log l.rtplus) (tuned_station l.tuning programme late with_dwell)) (2 ^ 32) (script_in r)) done
     (Encode programme late) w status
-TaskRuns (Simulate programme late window alone why) lose l r w status =
-    SimulationRuns why l.rtplus (simulated_station l.tuning programme late window alone)
-    (Simulate programme late window alone why) r w status
+TaskRuns (Simulate programme late window alone why keep) lose l r w status =
+    SimulationRuns (Simulation why l.rtplus keep) (simulated_station l.tuning programme late window alone)
+    (Simulate programme late window alone why keep) r w status
 TaskRuns (Audit late running padded all) lose l r w status =
     EngineRuns (Audits (auditing_of l late running padded all) (2 ^ 32) r.traffic) verdict_status
     (Audit late running padded all) w status

@@ -8,6 +8,7 @@ use Rattle.rds_io.specs.ReadFailed.{SomeReadFailed}
 use Rattle.rds_script.specs.BorrowedReads.{plays_by}
 use Rattle.rds_script.specs.Play.{Plays, with_form}
 use Rattle.rds_script.specs.declared.play.Playing.{Playing}
+use Rattle.rds_script.specs.declared.form.Form.{Form}
 use Rattle.rds_script.specs.declared.form.Form.TheVariants.{Log, Simulation}
 use Rattle.rds_witness.specs.Spans.{bursts_in}
 use Rattle.rds_witness.specs.declared.burst.Burst.{Burst}
@@ -61,13 +62,13 @@ script_by says how task known w status ran = record {
 }
 
 -- the run of a simulation, with other statements about its reads
-simulation_by : {P Q U V : Type 0} → (P → Q) → (U → V) → (why : Bool) (n : ℕ) (station : Option Config) (task : Task)
+simulation_by : {P Q U V : Type 0} → (P → Q) → (U → V) → (form : Form) (station : Option Config) (task : Task)
     (r w : Traffic) (status : ℕ)
-    → SimulationRuns why n station task (record { traffic = r; ReadFailed = P; Untouched = U }) w status
-    → SimulationRuns why n station task (record { traffic = r; ReadFailed = Q; Untouched = V }) w status
-simulation_by says rests why n None task r w status ran = (ran.0, rests ran.1)
-simulation_by says rests why n (Some station) task r w status ran =
-    script_by says (with_form (Simulation why n) station) task r.before w status ran
+    → SimulationRuns form station task (record { traffic = r; ReadFailed = P; Untouched = U }) w status
+    → SimulationRuns form station task (record { traffic = r; ReadFailed = Q; Untouched = V }) w status
+simulation_by says rests form None task r w status ran = (ran.0, rests ran.1)
+simulation_by says rests form (Some station) task r w status ran =
+    script_by says (with_form form station) task r.before w status ran
 
 -- the run of a receiver that loses given slots, with other statements about its reads
 loss_by : (P Q : Type 0) {U V : Type 0} → (U → V) → (lost : Option (List Burst)) (alone : Bool) (l : Listening)
@@ -91,9 +92,9 @@ task_by says rests (Slots grain only) lose l r w status ran = ran
 task_by says rests (Encode programme late) lose l r w status ran =
     script_by says (with_form (Log l.rtplus) (tuned_station l.tuning programme late with_dwell)) (Encode programme late)
     r.before w status ran
-task_by says rests (Simulate programme late window alone why) lose l r w status ran =
-    simulation_by says rests why l.rtplus (simulated_station l.tuning programme late window alone)
-    (Simulate programme late window alone why) r w status ran
+task_by says rests (Simulate programme late window alone why keep) lose l r w status ran =
+    simulation_by says rests (Simulation why l.rtplus keep) (simulated_station l.tuning programme late window alone)
+    (Simulate programme late window alone why keep) r w status ran
 
 -- a reader whose count of failures is always 0 never fails
 pub never_fails : Failed 0 0 → ⊥

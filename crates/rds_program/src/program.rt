@@ -166,11 +166,15 @@ fn run_task<R: TellingRead, W: TellingWrite, N: News>(
             window,
             flag_alone,
             says_why,
+            keep,
         } => {
             let station = simulated_station(pi, dwell, programme, late, window, flag_alone);
-            simulate(
-                alloc, asked, says_why, rtplus, station, reader, writer, report,
-            )
+            let form = Form::Simulation {
+                says_why,
+                rtplus,
+                keep,
+            };
+            simulate(alloc, asked, form, station, reader, writer, report)
         }
         Task::Audit {
             late,
@@ -256,19 +260,17 @@ fn lose<R: TellingRead, W: TellingWrite, N: News>(
     }
 }
 
-/// Simulates a station, with its tags in this group type, and its receivers. Says why texts and names are not shown any
-/// more, if that is asked for. Without a station the window is refused.
+/// Simulates a station and its receivers, and writes its slots in this form. Without a station the window is refused.
 fn simulate<R: TellingRead, W: TellingWrite>(
     alloc: Global,
     task: Task,
-    says_why: bool,
-    rtplus: TagGroup,
+    form: Form,
     station: Option<Config>,
     reader: &mut R,
     writer: &mut W,
     report: &mut Report,
 ) -> u8
-    ensures { SimulationRuns says_why rtplus station task
+    ensures { SimulationRuns form station task
         (reader_over R.remaining R.failures R.reads reader.old reader.new)
         (traffic W.contents W.failures writer.old writer.new) result }
 {
@@ -277,7 +279,6 @@ fn simulate<R: TellingRead, W: TellingWrite>(
         write_fault_text(task, b"fault confirm", writer);
         return REFUSED;
     };
-    let form = Form::Simulation { says_why, rtplus };
     let playing = Playing {
         form,
         config: station,

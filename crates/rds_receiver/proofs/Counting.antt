@@ -1,6 +1,7 @@
 -- Lemmas: what a display counts follows from its slots.
-use Rattle.std.proofs.Common.{◌≡◌, ◌≢◌, ◌<◌, ◌-◌, ◌==◌, ◌&&◌, ℕ, Bool, true, false, List, [], ◌∷◌, Option, Some, None, arith}
-use Rattle.std.proofs.Common.{zero, suc, refl, sym, ap₂, ◌∙◌, if◌then◌else◌, is_some, map, not}
+use Rattle.std.proofs.Common.{◌≡◌, ◌≢◌, ◌<◌, ◌-◌, ◌==◌, ◌&&◌, ℕ, Bool, true, false, List, [], ◌∷◌, Option, Some, None}
+use Rattle.std.proofs.Common.{arith}
+use Rattle.std.proofs.Common.{zero, suc, refl, subst, sym, ap₂, ◌∙◌, if◌then◌else◌, is_some, map, not}
 use Rattle.std.proofs.lemmas.Bool.Decides.{nat_tests}
 use Rattle.std.specs.Borrow.{Bor}
 use Rattle.std.specs.Prelude.{option_copied}
@@ -8,14 +9,15 @@ use Rattle.rds_block.specs.declared.group.Group.{Group}
 use Rattle.rds_fields.specs.declared.message.Message.{Message}
 use Rattle.rds_assembly.specs.ServiceLaws.{no_name_of_none, no_text_of_none}
 use Rattle.rds_receiver.specs.Confirmed.{counted, counted_in}
-use Rattle.rds_receiver.specs.Counts.{CountsOf, CountsOn, CountsSlot, DisplayAt, after_slot, ended_of, ends, is_still}
-use Rattle.rds_receiver.specs.Counts.{kept_stored, none_kept}
-use Rattle.rds_receiver.specs.Kept.{AreShowings, GoesOn, IsShowing, Last, Moment, Showing, beside, displayed, flag_of}
+use Rattle.rds_receiver.specs.Counts.{CountsOf, CountsOn, CountsSlot, DisplayAt, DisplayOf, after_slot, ended_of, ends}
+use Rattle.rds_receiver.specs.Counts.{is_still, kept_stored, none_kept}
+use Rattle.rds_receiver.specs.Kept.{AreShowings, Displays, GoesOn, GoesOnBy, IsShowing, Last, Moment, Showing, beside}
+use Rattle.rds_receiver.specs.Kept.{displayed, flag_of}
 use Rattle.rds_receiver.specs.Kept.{is_recent, kept, last, last_after, name_moment, newest_showing, text_moment}
 use Rattle.rds_receiver.specs.Kept.{with_text}
 use Rattle.rds_receiver.specs.KeptLemmas.{none_is_kept}
 use Rattle.rds_receiver.specs.OneView.{same_view_of}
-use Rattle.rds_receiver.specs.Receipts.{Tuning, heard_of, name_fragment, text_fragment}
+use Rattle.rds_receiver.specs.Receipts.{AreHeard, Tuning, heard_in, heard_of, name_fragment, text_fragment}
 use Rattle.rds_receiver.specs.ReceiverAt.{KeepsShowing, KeepsView, ReceiverAt}
 use Rattle.rds_receiver.specs.Run.{run_at}
 use Rattle.rds_receiver.specs.Shown.{IsView, ShownView, ShowsView}
@@ -270,6 +272,30 @@ same_showings t (h ∷ before) (s ∷ showings) [] p q = absurd q
 
 -- ---- the display
 
+-- one more entry was heard, after which the receiver has this view
+pub display_next : (n : ℕ) (t : Tuning) (after_r : Receiver) (old new : Keeping) (is_changed : Bool)
+    (change : Option Kept) (before after now : ShownView) (groups : List (Option Group)) (h : Option Message)
+    (heard : List (Option Message))
+    → DisplayOf n t old before heard → ReceiverAt t after_r groups → AreHeard t.programme groups (h ∷ heard)
+    → (is_changed ≡ false → GoesOnBy t heard (h ∷ heard)) → CountsSlot after_r old new is_changed change
+    → new.keep ≡ old.keep → ShowsView t.dwell t.first (counted t (h ∷ heard)) now
+    → after ≡ after_slot change before now → DisplayOf n t new after (h ∷ heard)
+display_next n t after_r old new is_changed change before after now groups h heard d stands are goes counts keep view
+    shows =
+    let seen = showing_with t.dwell t.first (counted t (h ∷ heard)) now in
+    let is : IsShowing t.dwell t.first (counted t (h ∷ heard)) seen =
+    record { view = view; text = refl; name = refl } in
+    let newest = newest_is t heard d.showings d.are in
+    let here = subst (λ (l : List (Option Message)). IsShowing t.dwell t.first (counted t l) seen) are is in
+    let on = counts t groups stands seen d.showings here (λ calm. goes calm _ seen newest is) d.counts in
+    record {
+      showings = seen ∷ d.showings;
+      are = (is, d.are);
+      keep = keep ∙ d.keep;
+      counts = on.counts;
+      shows = (let next = on.shows in let same = d.keep in let was = d.shows in grind (arith));
+    }
+
 -- one more slot, after which the receiver has this view
 pub display_on : (n : ℕ) (t : Tuning) (r after_r : Receiver) (old new : Keeping) (is_changed : Bool)
     (change : Option Kept) (before after now : ShownView) (group : Option Group) (input : List (Option Group))
@@ -279,19 +305,8 @@ pub display_on : (n : ℕ) (t : Tuning) (r after_r : Receiver) (old new : Keepin
     → DisplayAt n t new after (group ∷ input)
 display_on n t r after_r old new is_changed change before after now group input d stood stands goes counts keep view
     shows =
-    let heard = counted t (heard_of t.programme (group ∷ input)) in
-    let seen = showing_with t.dwell t.first heard now in
-    let is : IsShowing t.dwell t.first heard seen = record { view = view; text = refl; name = refl } in
-    let newest = newest_is t (heard_of t.programme input) d.showings d.are in
-    let on = counts t (group ∷ input) stands seen d.showings is (λ calm. goes calm t input stood _ seen newest is)
-    d.counts in
-    record {
-      showings = seen ∷ d.showings;
-      are = (is, d.are);
-      keep = keep ∙ d.keep;
-      counts = on.counts;
-      shows = (let next = on.shows in let same = d.keep in let was = d.shows in grind (arith));
-    }
+    display_next n t after_r old new is_changed change before after now (group ∷ input) (heard_in t.programme group)
+    (heard_of t.programme input) d stands refl (λ calm. goes calm t input stood) counts keep view shows
 
 -- one more slot that changed nothing
 pub display_stays : (n : ℕ) (t : Tuning) (r after_r : Receiver) (old new : Keeping) (is_changed : Bool)
@@ -304,3 +319,63 @@ display_stays n t r after_r old new is_changed view group input d stood stands s
     let newest = newest_is t (heard_of t.programme input) d.showings d.are in
     display_on n t r after_r old new is_changed None view view was group input d stood stands (λ calm. goes) counts
     keep (stays was t input stood newest.view) refl
+
+-- before anything was heard
+pub display_starts : (n : ℕ) (t : Tuning) (k : Keeping) (now : ShownView) → k.keep ≡ n → CountsOf k []
+    → ShowsView t.dwell t.first (counted t []) now → DisplayOf n t k now []
+display_starts n t k now keep counts is = record {
+  showings = [];
+  are = tt;
+  keep = keep;
+  counts = counts;
+  shows = same_view_of t.dwell t.first (counted t []) now (newest_showing []).view is (newest_is t [] [] tt).view;
+}
+
+-- ---- a display that keeps nothing
+
+-- it shows the view of its receiver
+pub plain_view : (t : Tuning) (heard : List (Option Message)) (view : ShownView) → Displays 0 t heard view
+    → ShowsView t.dwell t.first (counted t heard) view
+plain_view t [] view d = by d.showings d.are d.shows
+  where
+    by : (showings : List Showing) → AreShowings t [] showings → view ≡ displayed 0 showings
+        → ShowsView t.dwell t.first (counted t []) view
+    by [] are shows = rw shows (newest_is t [] [] are).view
+    by (s ∷ older) are shows = absurd are
+plain_view t (h ∷ heard) view d = by d.showings d.are d.shows
+  where
+    by : (showings : List Showing) → AreShowings t (h ∷ heard) showings → view ≡ displayed 0 showings
+        → ShowsView t.dwell t.first (counted t (h ∷ heard)) view
+    by [] are shows = absurd are
+    by (s ∷ older) are shows =
+        let same = displays_now t.dwell t.first (counted t (h ∷ heard)) s older are.0 in
+        rw (shows, same) are.0.view
+
+-- it counts nothing
+nothing_left : {X : Type 0} (n : ℕ) (k : StoredKept) (moments : List (Moment X)) → k ≡ kept_stored n (last moments)
+    → n ≡ 0 → k.left ≡ 0
+nothing_left n k moments counts none = by (last moments) counts
+  where
+    by : (o : Option Last) → k ≡ kept_stored n o → k.left ≡ 0
+    by None counts = grind (arith)
+    by (Some l) counts = grind (arith, nat_tests)
+
+-- one more entry was heard that changed nothing
+pub plain_stays : (t : Tuning) (k : Keeping) (view : ShownView) (h : Option Message) (heard : List (Option Message))
+    → DisplayOf 0 t k view heard → GoesOnBy t heard (h ∷ heard)
+    → ShowsView t.dwell t.first (counted t (h ∷ heard)) view → DisplayOf 0 t k view (h ∷ heard)
+plain_stays t k view h heard d goes stays =
+    let seen = showing_with t.dwell t.first (counted t (h ∷ heard)) view in
+    let is : IsShowing t.dwell t.first (counted t (h ∷ heard)) seen =
+    record { view = stays; text = refl; name = refl } in
+    let newest = newest_is t heard d.showings d.are in
+    let on = quiet_on k seen d.showings (goes _ seen newest is) d.counts
+    (nothing_left k.keep k.text (map text_moment d.showings) d.counts.text d.keep)
+    (nothing_left k.keep k.name (map name_moment d.showings) d.counts.name d.keep) in
+    record {
+      showings = seen ∷ d.showings;
+      are = (is, d.are);
+      keep = d.keep;
+      counts = on.counts;
+      shows = (let next = on.shows in let same = d.keep in let was = d.shows in grind (arith));
+    }

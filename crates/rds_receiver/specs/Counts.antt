@@ -3,6 +3,7 @@
 use Rattle.std.specs.Prelude.{◌≡◌, ◌+◌, ◌-◌, ◌==◌, ◌||◌, ℕ, Bool, true, false, List, ◌∷◌, Option, None, Some}
 use Rattle.std.specs.Prelude.{if◌then◌else◌, map, nat_le, not}
 use Rattle.rds_block.specs.declared.group.Group.{Group}
+use Rattle.rds_fields.specs.declared.message.Message.{Message}
 use Rattle.rds_receiver.specs.Kept.{AreShowings, GoesOn, IsShowing, Last, Showing, displayed, last, name_moment}
 use Rattle.rds_receiver.specs.Kept.{newest_showing, text_moment}
 use Rattle.rds_receiver.specs.Receipts.{Tuning, heard_of}
@@ -69,13 +70,17 @@ CountsSlot after old new is_changed change =
     → (is_changed ≡ false → GoesOn (newest_showing before) now) → CountsOf old before
     → CountsOn old new change now before)
 
--- a display that keeps for n slots counts so and shows this view, at the end of an input of its receiver
-pub record DisplayAt (n : ℕ) (t : Tuning) (k : Keeping) (view : ShownView) (input : List (Option Group)) : Type 0 where
+-- a display that keeps for n slots counts so and shows this view, after what its receiver heard
+pub record DisplayOf (n : ℕ) (t : Tuning) (k : Keeping) (view : ShownView) (heard : List (Option Message)) : Type 0 where
   pub showings : List Showing
-  pub are : AreShowings t (heard_of t.programme input) showings
+  pub are : AreShowings t heard showings
   pub keep : k.keep ≡ n
   pub counts : CountsOf k showings
   pub shows : view ≡ displayed n showings
+
+-- the same at the end of an input of its receiver
+abbrev pub DisplayAt : ℕ → Tuning → Keeping → ShownView → List (Option Group) → Type 0
+DisplayAt n t k view input = DisplayOf n t k view (heard_of t.programme input)
 
 -- a value is still kept, or it has ended; neither if none was kept
 abbrev pub is_still : Option Bool → Bool

@@ -98,6 +98,12 @@ pub record GoesOn (s now : Showing) : Type 0 where
   pub text : is_some now.view.text ≡ true → now.text_flag ≡ s.text_flag
   pub name : is_some now.view.name ≡ true → now.name_flag ≡ s.name_flag
 
+-- the end of what was heard before goes on at the end of what was heard then
+abbrev pub GoesOnBy : Tuning → List (Option Message) → List (Option Message) → Type 0
+GoesOnBy t before after =
+    (s now : Showing) → IsShowing t.dwell t.first (counted t before) s → IsShowing t.dwell t.first (counted t after) now
+    → GoesOn s now
+
 -- a view that shows a text, with its item bits and tags
 abbrev pub with_text : ShownView → Option ShownView
 with_text view = if is_some view.text then Some view else None

@@ -5,7 +5,7 @@ use Rattle.rds_fields.specs.declared.message.Message.{Message}
 use Rattle.rds_receiver.specs.Receipts.{Tuning, heard_of}
 use Rattle.rds_receiver.specs.Confirming.{HoldsBy}
 use Rattle.rds_receiver.specs.Holds.{newest_slot}
-use Rattle.rds_receiver.specs.Kept.{GoesOn, IsShowing, Showing}
+use Rattle.rds_receiver.specs.Kept.{GoesOnBy}
 use Rattle.rds_receiver.specs.Shown.{IsView, ShownView}
 use Rattle.rds_receiver.specs.Stored.{IsStoredReceiver, receiver_stored}
 use Rattle.rds_receiver.specs.Confirmed.{counted}
@@ -35,9 +35,7 @@ KeepsView r group =
 -- the slot before goes on
 abbrev pub KeepsShowing : Receiver → Option Group → Type 0
 KeepsShowing r group =
-    WhereReceiverStands r (λ t input. (s now : Showing)
-    → IsShowing t.dwell t.first (counted t (heard_of t.programme input)) s
-    → IsShowing t.dwell t.first (counted t (heard_of t.programme (group ∷ input))) now → GoesOn s now)
+    WhereReceiverStands r (λ t input. GoesOnBy t (heard_of t.programme input) (heard_of t.programme (group ∷ input)))
 
 -- this holds of the dwell, the first slot and what counts of what was heard, for each tuning and input that the
 -- receiver stands at

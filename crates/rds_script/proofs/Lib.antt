@@ -1,5 +1,6 @@
 pub mod Numbers
 pub mod Commands
+pub mod Displays
 pub mod Periods
 pub mod Receptions
 pub mod OneEvent

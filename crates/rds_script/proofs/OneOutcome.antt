@@ -1,7 +1,7 @@
 -- The slots of a station come to one list of outcomes.
 use Rattle.std.proofs.Common.{◌≡◌, ◌≢◌, ◌∙◌, ◌∷◌, [], ℕ, List, Option, Some, None, ap, refl, sym, arith, reverse, ◌⊎◌}
 use Rattle.std.proofs.Common.{◌++◌, ◌+◌, ◌<◌, ◌≤◌, zero, suc, append_assoc, append-nil, add-one, get_or, length, map}
-use Rattle.std.proofs.Common.{set}
+use Rattle.std.proofs.Common.{set, ap₂}
 use Rattle.std.proofs.lemmas.Grind.{common_steps, get_or-set_at}
 use Rattle.std.proofs.lemmas.List.{same_lists, reverse-reverse, get_or-map, get_or-set_other, length-map, map-set}
 use Rattle.rds_block.specs.declared.group.Group.{Group}
@@ -11,7 +11,10 @@ use Rattle.rds_fields.specs.declared.message.Message.TheVariants.{Other}
 use Rattle.rds_fields.specs.Canonical.{IsWritten}
 use Rattle.rds_charset.specs.Laws.{TextIsReadOneWay}
 use Rattle.rds_encoder.specs.Sent.{IsSent}
-use Rattle.rds_receiver.specs.OneView.{same_view}
+use Rattle.rds_receiver.proofs.Counting.{same_showings}
+use Rattle.rds_receiver.specs.Confirmed.{counted}
+use Rattle.rds_receiver.specs.Kept.{displayed}
+use Rattle.rds_receiver.specs.OneView.{same_view_of}
 use Rattle.rds_receiver.specs.Shown.{ShownView}
 use Rattle.rds_world.specs.Event.{Event}
 use Rattle.rds_safety.specs.Late.{Input}
@@ -22,7 +25,8 @@ use Rattle.rds_script.specs.Rows.{Record}
 use Rattle.rds_script.specs.declared.play.Playing.{Playing}
 use Rattle.rds_script.specs.Play.{RowsWrite, PlaysAll, ScriptWrites}
 use Rattle.rds_script.proofs.OneEvent.{same_events}
-use Rattle.rds_script.specs.Outcomes.{AreOutcomes, IsOutcome, Outcome, receiver_changes, view_at, compared_lines}
+use Rattle.rds_script.specs.Outcomes.{AreOutcomes, IsDisplayed, IsOutcome, Outcome, receiver_changes, view_at}
+use Rattle.rds_script.specs.Outcomes.{compared_lines}
 use Rattle.rds_script.specs.Outcomes.{airings_change, airings_changes}
 use Rattle.rds_world.specs.declared.world.Config.{Config}
 use Rattle.std.specs.Io.KnownBytes.{Appends}
@@ -33,9 +37,9 @@ use Rattle.csv.specs.declared.parser.State.TheVariants.{StartRecord}
 use Rattle.rds_io.specs.Told.{Traffic}
 use Rattle.rds_io.specs.Alike.{WriteAlike}
 use Rattle.rds_receiver.specs.declared.why.Whys.{Whys}
-use Rattle.rds_view_lines.specs.KeptView.{view_kept}
+use Rattle.rds_view_lines.specs.KeptView.{view_shown}
 use Rattle.rds_view_lines.specs.Output.{change, receiver_prefix}
-use Rattle.rds_view_lines.specs.declared.kept.KeptView.{KeptView}
+use Rattle.rds_view_lines.specs.declared.shown.Shown.{Shown}
 use Rattle.rds_view_lines.specs.NoChange.{no_change}
 use Rattle.rds_script.specs.Inside.Compared.{WereBefore, WereKept, airings_at}
 use Rattle.rds_script.specs.Inside.Watched.{AreKept}
@@ -51,33 +55,47 @@ same_sent one head None None None other p q = refl
 same_sent one head (Some m) (Some g) (Some h) other p q = ap Some (one m head g h (λ e. other (ap Some e)) p q)
 same_sent one head _ _ _ other p q = grind arith
 
--- an input has one view, whichever groups spell it
+-- an input has one view
 pub same_view_of_input : (config : Config) (input : Input) (v w : ShownView) → IsViewOfInput config input v
     → IsViewOfInput config input w → v ≡ w
 same_view_of_input config input v w p q =
-    same_view (tuned_to config input) p.groups v w p.is (rw (sym q.spelled ∙ p.spelled) at q.is)
+    let t = tuned_to config input in same_view_of t.dwell t.first (counted t input.heard) v w p q
+
+-- a display shows one view
+same_displayed : (n : ℕ) (config : Config) (input : Input) (v w : ShownView) → IsDisplayed n config input v
+    → IsDisplayed n config input w → v ≡ w
+same_displayed n config input v w p q =
+    p.shows ∙ ap (displayed n) (same_showings (tuned_to config input) input.heard p.showings q.showings p.are q.are)
+    ∙ sym q.shows
 
 sent_is_known : (d : ℕ) (e : Event) (before : List Event) → sent_at d e before ≢ Some Other
 sent_is_known d e before = grind arith
 
-same_views : (config : Config) (e : Event) (before : List Event) (o other : Outcome) → IsOutcome config e before o
-    → IsOutcome config e before other → o.views ≡ other.views
-same_views config e before o other p q = same_lists o.views other.views (omega arith) (λ n d within.
+same_views : (keep : ℕ) (config : Config) (e : Event) (before : List Event) (o other : Outcome)
+    → IsOutcome keep config e before o → IsOutcome keep config e before other → o.views ≡ other.views
+same_views keep config e before o other p q = same_lists o.views other.views (omega arith) (λ n d within.
     let one = p.views n within in
     let two = q.views n (omega arith) in
-    let same = same_view_of_input config (input_of (distance config) n (e ∷ before)) _ _ one two in
+    let same = same_displayed keep config (input_of (distance config) n (e ∷ before)) _ _ one two in
     grind (arith, common_steps))
 
-same_outcome : OneGroup → (config : Config) (e : Event) (before : List Event) (o other : Outcome)
-    → IsOutcome config e before o → IsOutcome config e before other → o ≡ other
-same_outcome one config e before o other p q = grind (arith, same_sent, sent_is_known, same_views)
+same_outcome : OneGroup → (keep : ℕ) (config : Config) (e : Event) (before : List Event) (o other : Outcome)
+    → IsOutcome keep config e before o → IsOutcome keep config e before other → o ≡ other
+same_outcome one keep config e before o other p q =
+    let views = same_views keep config e before o other p q in
+    let sent = same_sent one config.head (sent_at (distance config) e before) o.sent other.sent
+    (sent_is_known (distance config) e before) p.sent q.sent in
+    let command : o.command ≡ other.command = p.command ∙ sym q.command in
+    let reply : o.reply ≡ other.reply = p.reply ∙ sym q.reply in
+    λ i. record { command = command i; reply = reply i; sent = sent i; views = views i }
 
-same_outcomes : OneGroup → (config : Config) (events : List Event) (outcomes other : List Outcome)
-    → AreOutcomes config events outcomes → AreOutcomes config events other → outcomes ≡ other
-same_outcomes one config [] [] [] p q = refl
-same_outcomes one config (e ∷ before) (o ∷ outcomes) (o' ∷ other) p q =
-    grind (arith, same_outcomes one config before outcomes other p.1 q.1, same_outcome)
-same_outcomes one config _ _ _ p q = grind arith
+same_outcomes : OneGroup → (keep : ℕ) (config : Config) (events : List Event) (outcomes other : List Outcome)
+    → AreOutcomes keep config events outcomes → AreOutcomes keep config events other → outcomes ≡ other
+same_outcomes one keep config [] [] [] p q = refl
+same_outcomes one keep config (e ∷ before) (o ∷ outcomes) (o' ∷ other) p q =
+    ap₂ (λ (x : Outcome) (l : List Outcome). x ∷ l) (same_outcome one keep config e before o o' p.0 q.0)
+    (same_outcomes one keep config before outcomes other p.1 q.1)
+same_outcomes one keep config _ _ _ p q = grind arith
 
 -- rows write one output
 pub same_written : TextIsReadOneWay → OneGroup → (how : Playing) (records : List Record) (written other : List ℕ)
@@ -153,13 +171,13 @@ changes_same slot (suc i) whys before older now other p q =
     grind (arith, changes_same slot i whys before older now other)
 
 -- the views that are kept, where one is kept anew
-pub at_set : (shown : List KeptView) (i : ℕ) (new : KeptView) → i < length shown
-    → view_at (map view_kept (set shown i new)) i ≡ view_kept new
+pub at_set : (shown : List Shown) (i : ℕ) (new : Shown) → i < length shown
+    → view_at (map view_shown (set shown i new)) i ≡ view_shown new
 at_set shown i new within = search (map-set, get_or-set_at, length-map)
 
 -- the view of one receiver changes no other one
-pub other_set : (shown : List KeptView) (i k : ℕ) (new : KeptView) → k ≢ i
-    → view_at (map view_kept (set shown i new)) k ≡ view_at (map view_kept shown) k
+pub other_set : (shown : List Shown) (i k : ℕ) (new : Shown) → k ≢ i
+    → view_at (map view_shown (set shown i new)) k ≡ view_at (map view_shown shown) k
 other_set shown i k new other = search (map-set, get_or-set_other)
 
 one_changes : (slot i : ℕ) (whys : ℕ → Option Whys) (before now : List ShownView)
@@ -169,17 +187,17 @@ unfolding receiver_changes
 one_changes slot i whys before now = sym (ap (λ (n : ℕ). receiver_changes slot n whys before now) (add-one i))
 
 -- one receiver more
-pub next_changes : (slot i : ℕ) (whys : ℕ → Option Whys) (said : Option Whys) (initial shown : List KeptView)
-    (d new : KeptView) (start lines after : List ℕ)
-    → i < length shown → ((k : ℕ) → i ≤ k → view_at (map view_kept shown) k ≡ view_at (map view_kept initial) k)
-    → lines ≡ start ++ receiver_changes slot i whys (map view_kept initial) (map view_kept shown)
-    → after ≡ lines ++ change (receiver_prefix slot i) said (view_kept (get_or shown i d)) (view_kept new)
+pub next_changes : (slot i : ℕ) (whys : ℕ → Option Whys) (said : Option Whys) (initial shown : List Shown)
+    (d new : Shown) (start lines after : List ℕ)
+    → i < length shown → ((k : ℕ) → i ≤ k → view_at (map view_shown shown) k ≡ view_at (map view_shown initial) k)
+    → lines ≡ start ++ receiver_changes slot i whys (map view_shown initial) (map view_shown shown)
+    → after ≡ lines ++ change (receiver_prefix slot i) said (view_shown (get_or shown i d)) (view_shown new)
     → said ≡ whys i
-    → after ≡ start ++ receiver_changes slot (i + 1) whys (map view_kept initial) (map view_kept (set shown i new))
+    → after ≡ start ++ receiver_changes slot (i + 1) whys (map view_shown initial) (map view_shown (set shown i new))
 next_changes slot i whys said initial shown d new start lines after within later had gave is =
-    let before = map view_kept initial in
-    let now = map view_kept (set shown i new) in
-    let first = changes_same slot i whys before before (map view_kept shown) now (λ k l. refl)
+    let before = map view_shown initial in
+    let now = map view_shown (set shown i new) in
+    let first = changes_same slot i whys before before (map view_shown shown) now (λ k l. refl)
     (λ k l. sym (other_set shown i k new (λ e. omega arith))) in
     grind (arith, append_assoc, get_or-map, at_set, one_changes slot i whys before now, later i)
 

@@ -1,20 +1,16 @@
 -- How a station goes on by a row, and why a record is no row.
 use Rattle.std.proofs.Common.{◌≡◌, ◌⊎◌, ◌<◌, ◌≤◌, ◌+◌, ◌∷◌, ◌++◌, [], ℕ, suc, List, None, Option, Some, ap, arith, inl}
-use Rattle.std.proofs.Common.{length, refl, subst, sym, Err, Ok, OnOk, Result, ◌≢◌, Bool, false, true, MatchBool}
-use Rattle.std.proofs.Common.{reverse}
+use Rattle.std.proofs.Common.{length, refl, Err, Ok, OnOk, Result, ◌≢◌, Bool, false, true, MatchBool}
+use Rattle.std.proofs.Common.{reverse, ◌∙◌}
 use Rattle.rds_world.specs.Event.{Event}
-use Rattle.rds_world.specs.State.{distance}
 use Rattle.rds_receiver.specs.Shown.{ShownView}
 use Rattle.rds_script.proofs.OneOutcome.{changes_same, compared_alike}
-use Rattle.rds_view_lines.specs.NoChange.{view_of_none}
-use Rattle.rds_world.specs.Slots.{input_of}
-use Rattle.rds_world.specs.WorldAt.{IsViewOfInput, ShowsStill, tuned_to}
-use Rattle.rds_script.specs.Outcomes.{AreOutcomes, IsOutcome, Outcome, compared_lines, lines_of, newest_views}
-use Rattle.rds_script.specs.Outcomes.{slot_lines, view_at}
+use Rattle.rds_script.specs.Outcomes.{AreOutcomes, IsOutcome, Outcome, compared_lines, keep_of, lines_of, newest_views}
+use Rattle.rds_script.specs.Outcomes.{slot_lines}
 use Rattle.rds_script.specs.Inside.Compared.{HasRoom}
 use Rattle.rds_script.specs.Inside.Player.{AppendsRow, HasWatched, IsBegun, Played, PlayerStandsAt, PlayedSoFar}
 use Rattle.rds_script.specs.Inside.Player.{PlaysNext, ScriptStandsAt, played_by}
-use Rattle.rds_script.specs.Inside.Watched.{AreKept, WatchedStandsAt, WereShown, views_kept}
+use Rattle.rds_script.specs.Inside.Watched.{AreKept, WatchedStandsAt, views_kept}
 use Rattle.rds_script.specs.declared.player.Player.{Player}
 use Rattle.rds_script.specs.declared.watched.Watched.{Watched}
 use Rattle.rds_charset.specs.Laws.{TextIsReadOneWay}
@@ -24,7 +20,6 @@ use Rattle.rds_script.specs.Rows.{AreNoRows, AreRows, IsAllowed, Record, SaysEve
 use Rattle.rds_script.proofs.OneEvent.{same_event, same_events}
 use Rattle.rds_script.proofs.Receptions.{same_receptions}
 use Rattle.rds_script.specs.declared.form.Form.{Form}
-use Rattle.rds_world.specs.declared.event.TheConstants.{MOST_RECEIVERS}
 use Rattle.rds_world.specs.declared.world.Config.{Config}
 use Rattle.std.proofs.lemmas.Bool.Decides.{nat_tests}
 use Rattle.rds_io.specs.Told.{Traffic}
@@ -83,9 +78,13 @@ pub none_played : (k : Config) (receivers other : ℕ) (records : List Record) (
 none_played k receivers other [] [] rows none = tt
 none_played k receivers other _ _ rows none = grind arith
 
-pub none_shown : (config : Config) (events : List Event) (outcomes : List Outcome) → AreOutcomes config events outcomes
-    → events ≡ [] → newest_views outcomes ≡ []
-none_shown config events outcomes are none = grind arith
+pub none_shown : (n : ℕ) (config : Config) (events : List Event) (outcomes : List Outcome)
+    → AreOutcomes n config events outcomes → events ≡ [] → newest_views outcomes ≡ []
+none_shown n config events outcomes are none = grind arith
+
+-- for how many slots the displays of what was played keep a text and a name
+abbrev pub kept_for : Played → ℕ
+kept_for played = keep_of played.form played.config
 
 -- the world that a row begins with: with as many receivers as the rows before have, or the first row asks for, and with
 -- memory for its slot
@@ -97,14 +96,16 @@ pub record IsReady (played : Played) (events : List Event) (outcomes : List Outc
     pub stands : WatchedStandsAt played.config receivers w events
     pub same : AreKept (views_kept w) (newest_views outcomes)
     pub room : HasRoom w.compared
+    pub keep : w.keep ≡ kept_for played
     pub how : (0 < length played.records) ⊎ (receivers ≡ asked)
 
 -- a script whose rows fit its world is ready for the next row
 pub is_ready : (before : Option Watched) (w : Watched) (played : Played) (asked : ℕ) (events : List Event)
     (outcomes : List Outcome) → IsAllowed played.form played.receivers → IsAllowed played.form asked
-    → AreRows played.config played.receivers played.records events → AreOutcomes played.config events outcomes
-    → HasWatched played.config played.receivers before events outcomes
-    → IsBegun played.config asked before w → IsReady played events outcomes asked w
+    → AreRows played.config played.receivers played.records events
+    → AreOutcomes (kept_for played) played.config events outcomes
+    → HasWatched (kept_for played) played.config played.receivers before events outcomes
+    → IsBegun (kept_for played) played.config asked before w → IsReady played events outcomes asked w
 is_ready None w played asked events outcomes had allowed rows are none begun = grind (arith, none_played, none_shown)
 is_ready (Some before) w played asked events outcomes had allowed rows are has begun = record {
   receivers = played.receivers;
@@ -113,6 +114,7 @@ is_ready (Some before) w played asked events outcomes had allowed rows are has b
   stands = begun.0 played.config played.receivers events has.1;
   same = λ i. rw begun.1 (has.2 i);
   room = begun.2;
+  keep = begun.3 ∙ has.3;
   how = inl (omega (arith, as_many_rows played.config played.receivers played.records events rows));
 }
 
@@ -121,19 +123,19 @@ pub plays_on : {T E : Type 0} (r : Result T E) (before now : Player) (played : P
     (s : PlayerStandsAt before played) (receivers : ℕ) (kept : List ShownView) (w : Watched) (row : Record) (e : Event)
     (old new : List ℕ)
     → now.form ≡ before.form → now.config ≡ before.config → now.slot ≡ before.slot + 1 → now.watched ≡ Some w
-    → IsAllowed played.form receivers
+    → IsAllowed played.form receivers → w.keep ≡ kept_for played
     → AreRows played.config receivers played.records s.events → SaysEvent row e
     → AreKept kept (newest_views s.outcomes)
     → OnOk r (CanBeTaken played.config receivers e s.events)
     → OnOk r (WatchedStandsAt played.config receivers w (e ∷ s.events))
-    → OnOk r ((o : Outcome) × IsOutcome played.config e s.events o × (o.views ≡ views_kept w)
+    → OnOk r ((o : Outcome) × IsOutcome (kept_for played) played.config e s.events o × (o.views ≡ views_kept w)
     × (new ≡ old ++ (slot_lines played.form played.config before.slot e s.events kept o
     ++ compared_lines played.config before.slot (length o.views) e s.events kept o.views)))
     → OnOk r (AppendsRow now row old new played)
-plays_on (Err why) before now played s receivers kept w row e old new form config slot watched allowed rows says same
-    taken stands outcome = grind (arith)
-plays_on (Ok done) before now played s receivers kept w row e old new form config slot watched allowed rows says same
-    taken stands (o, is, views, gave) = (
+plays_on (Err why) before now played s receivers kept w row e old new form config slot watched allowed keep rows says
+    same taken stands outcome = grind (arith)
+plays_on (Ok done) before now played s receivers kept w row e old new form config slot watched allowed keep rows says
+    same taken stands (o, is, views, gave) = (
       slot_lines played.form played.config before.slot e s.events kept o ++ compared_lines played.config before.slot
           (length o.views) e s.events kept o.views,
       gave,
@@ -150,7 +152,7 @@ plays_on (Ok done) before now played s receivers kept w row e old new form confi
           slot = omega arith;
           lines = slot_written played.form played.config before.slot kept e s.events o s.outcomes played.written _
               s.lines s.slot same refl;
-          watched = rw watched (omega arith, stands, λ i. rw views refl);
+          watched = rw watched (omega arith, stands, λ i. rw views refl, keep);
         },
       ),
     )
@@ -174,19 +176,6 @@ refused_row one form k receivers row records e events rows says how none (g ∷ 
 pub not_taken : (k : Config) (receivers : ℕ) (e : Event) (before : List Event) (why : StepRefused)
     → IsStepRefused k receivers e before why → CanBeTaken k receivers e before → ⊥
 not_taken k receivers e before why refused taken = grind arith
-
--- what a receiver shows that shows what it showed
-pub still_shown : (config : Config) (n i : ℕ) (events : List Event) (kept now : List ShownView)
-    → ShowsStill config i events → WereShown config n events kept → i < n
-    → view_at now i ≡ view_at kept i → IsViewOfInput config (input_of (distance config) i events) (view_at now i)
-still_shown config n i events kept now still were within same = grind arith
-
--- where nothing is kept yet, before the first slot
-pub nothing_yet : (config : Config) (i : ℕ) (kept : List ShownView) → view_at kept i ≡ view_at [] i
-    → IsViewOfInput config (input_of (distance config) i []) (view_at kept i)
-nothing_yet config i kept nothing =
-    subst (IsViewOfInput config (input_of (distance config) i [])) (sym nothing) record
-    { groups = []; spelled = refl; is = view_of_none (tuned_to config (input_of (distance config) i [])) }
 
 -- ---- how a script is played on by a record, and what is left at each end
 

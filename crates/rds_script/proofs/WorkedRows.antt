@@ -9,7 +9,9 @@ use Rattle.rds_world.specs.declared.event.Command.TheVariants.{Quiet, SetTags, S
 use Rattle.rds_world.specs.declared.world.Config.{Config}
 use Rattle.rds_script.specs.Inside.Compared.{all_on_air}
 use Rattle.rds_script.specs.OnAir.{airings, airings_among}
+use Rattle.rds_script.specs.Outcomes.{keep_of}
 use Rattle.rds_script.specs.declared.airing.Airing.TheVariants.{Mix, Old, OnAir, Replaced}
+use Rattle.rds_script.specs.declared.form.Form.TheVariants.{Simulation}
 
 abbrev hi : List ℕ
 hi = 0x48 ∷ 0x49 ∷ []
@@ -115,3 +117,13 @@ item_bits : (head : Head)
     → airings (station 4 head) (quiet 19 ++ tagged)
     (record { text = Some letters; name = None; item = Some (false, false); one = None; two = None }) ≡ all_on_air
 item_bits head = refl
+
+-- ---- for how many slots displays keep a text
+
+radios_keep : (head : Head) → keep_of (Simulation false 11 685) (record (station 4 head) {
+  kind = record { window = None; is_flag_alone = false };
+}) ≡ 685
+radios_keep head = refl
+
+radios_with_the_flag_alone_keep_nothing : (head : Head) → keep_of (Simulation false 11 685) (station 4 head) ≡ 0
+radios_with_the_flag_alone_keep_nothing head = refl

@@ -1,10 +1,10 @@
 -- The outcomes of a station's slots, and their output. `sim` writes the reply, the group, and the changes of each
--- receiver's view, with the reasons if the lines say why a text or a name is not shown any more. For radios with the
+-- receiver's display, with the reasons if the lines say why a text or a name is not shown any more. For radios with the
 -- flag bit alone it also compares the views with what was on air. `encode` writes the reply as a comment, and the group
 -- as a line of a log. This is the project's own format. Lists have the newest first, so the slot of an outcome is the
 -- number of outcomes behind it.
 use Rattle.std.specs.Prelude.{◌≡◌, ◌<◌, ◌++◌, [], ◌∷◌, ℕ, zero, suc, Bool, true, false, List, Option, Some, None}
-use Rattle.std.specs.Prelude.{bytes_eq, codes, decimal, length, slice_index_or}
+use Rattle.std.specs.Prelude.{bytes_eq, codes, decimal, if◌then◌else◌, length, slice_index_or}
 use Rattle.rds_block.specs.declared.group.Group.{Group}
 use Rattle.rds_block.specs.Words.{second_word_of}
 use Rattle.rds_world.specs.State.{distance}
@@ -16,6 +16,7 @@ use Rattle.rds_encoder.specs.declared.reply.Refusal.{Refusal}
 use Rattle.rds_encoder.specs.declared.reply.Refusal.TheVariants.{Silent, Held, NoText, OutOfText}
 use Rattle.rds_fields.specs.TagGroup.{exchanged_in}
 use Rattle.rds_fields.specs.declared.message.Message.{Message}
+use Rattle.rds_receiver.specs.Kept.{Displays}
 use Rattle.rds_receiver.specs.NotShown.{whys_of}
 use Rattle.rds_receiver.specs.Receipts.{Tuning}
 use Rattle.rds_receiver.specs.Shown.{ShownView}
@@ -32,7 +33,7 @@ use Rattle.rds_world.specs.declared.reply.Reply.TheVariants as reply
 use Rattle.rds_world.specs.Event.{Event}
 use Rattle.rds_world.specs.Replies.{reply_at}
 use Rattle.rds_world.specs.Slots.{entries, input_of, sent_at}
-use Rattle.rds_world.specs.WorldAt.{IsViewOfInput, tuned_to}
+use Rattle.rds_world.specs.WorldAt.{tuned_to}
 use Rattle.rds_io.specs.Digits.{word_digits}
 use Rattle.rds_view_lines.specs.Output.{air_prefix, change, line_of, nothing_shown, receiver_prefix, slot_prefix}
 use Rattle.rds_view_lines.specs.Output.{unless_same}
@@ -48,29 +49,38 @@ use Rattle.rds_script.specs.declared.form.Form.TheVariants.{Simulation, Log}
 abbrev pub view_at : List ShownView → ℕ → ShownView
 view_at views i = slice_index_or views i nothing_shown
 
--- the outcome of a slot: the command, its reply, the group, and the views of the receivers at its end
+-- the outcome of a slot: the command, its reply, the group, and the views of the displays at its end
 pub record Outcome : Type 0 where
   pub command : Command
   pub reply : Reply
   pub sent : Option Group
   pub views : List ShownView
 
--- the outcome of a slot after these
-pub record IsOutcome (config : Config) (e : Event) (before : List Event) (o : Outcome) : Type 0 where
+-- for how many slots the displays of the receivers keep a text and a name. Radios with the flag bit alone keep none
+abbrev pub keep_of : Form → Config → ℕ
+keep_of (Log n) config = 0
+keep_of (Simulation why n keep) config = if config.kind.is_flag_alone then 0 else keep
+
+-- the view of a display that keeps for n slots, after what its receiver heard in the input
+abbrev pub IsDisplayed : ℕ → Config → Input → ShownView → Type 0
+IsDisplayed n config input view = Displays n (tuned_to config input) input.heard view
+
+-- the outcome of a slot after these. The displays keep for n slots
+pub record IsOutcome (n : ℕ) (config : Config) (e : Event) (before : List Event) (o : Outcome) : Type 0 where
   pub command : o.command ≡ e.command
   pub reply : o.reply ≡ reply_at (distance config) e.command (entries before)
   pub sent : IsSent config.head (sent_at (distance config) e before) o.sent
   pub receivers : length o.views ≡ length e.receptions
   pub views : (i : ℕ) → i < length o.views
-      → IsViewOfInput config (input_of (distance config) i (e ∷ before)) (view_at o.views i)
+      → IsDisplayed n config (input_of (distance config) i (e ∷ before)) (view_at o.views i)
 
 -- these are the outcomes of the slots
-abbrev pub AreOutcomes : Config → List Event → List Outcome → Type 0
-AreOutcomes config [] [] = Unit {0}
-AreOutcomes config [] (o ∷ older) = ⊥
-AreOutcomes config (e ∷ before) [] = ⊥
-AreOutcomes config (e ∷ before) (o ∷ older) =
-    IsOutcome config e before o × AreOutcomes config before older
+abbrev pub AreOutcomes : ℕ → Config → List Event → List Outcome → Type 0
+AreOutcomes n config [] [] = Unit {0}
+AreOutcomes n config [] (o ∷ older) = ⊥
+AreOutcomes n config (e ∷ before) [] = ⊥
+AreOutcomes n config (e ∷ before) (o ∷ older) =
+    IsOutcome n config e before o × AreOutcomes n config before older
 
 -- the content of a reply line for a text, a name or tags
 abbrev pub thing_set : Command → List ℕ
@@ -141,8 +151,8 @@ whys_after (reception.Wrong message) t heard = whys_of t heard
 -- the same, if the lines say why
 abbrev pub whys_said : Form → Reception → Config → Input → Option Whys
 whys_said (Log n) r config input = None
-whys_said (Simulation false n) r config input = None
-whys_said (Simulation true n) r config input = Some (whys_after r (tuned_to config input) input.heard)
+whys_said (Simulation false n keep) r config input = None
+whys_said (Simulation true n keep) r config input = Some (whys_after r (tuned_to config input) input.heard)
 
 -- the same for receiver i after these slots, the newest of which has these receptions
 abbrev pub whys_at : Form → Config → List Reception → List Event → ℕ → Option Whys
@@ -158,7 +168,7 @@ receiver_changes slot (suc i) whys before now =
 
 -- the lines of the reply and of the group. The tags are sent in groups nA
 abbrev pub answer_lines : Form → ℕ → Command → Reply → Option Group → List ℕ
-answer_lines (Simulation why n) slot command reply sent =
+answer_lines (Simulation why n keep) slot command reply sent =
     reply_line [] slot command reply ++ sent_line slot (exchanged_in n sent)
 answer_lines (Log n) slot command reply sent =
     reply_line (codes "# ") slot command reply ++ log_line (exchanged_in n sent)
@@ -226,5 +236,5 @@ lines_of form config (e ∷ before) (o ∷ older) =
 -- the output of a station's slots is the lines of their outcomes
 pub record EventsWrite (form : Form) (config : Config) (events : List Event) (written : List ℕ) : Type 0 where
   pub outcomes : List Outcome
-  pub are : AreOutcomes config events outcomes
+  pub are : AreOutcomes (keep_of form config) config events outcomes
   pub lines : written ≡ lines_of form config events outcomes

@@ -87,7 +87,7 @@ pub record SaysEvent (row : Record) (e : Event) : Type 0 where
 
 -- a script for `sim` names up to eight receivers, and one for `encode` names none
 abbrev pub IsAllowed : Form → ℕ → Type 0
-IsAllowed (Simulation why n) receivers = receivers ≤ MOST_RECEIVERS
+IsAllowed (Simulation why n keep) receivers = receivers ≤ MOST_RECEIVERS
 IsAllowed (Log n) receivers = receivers ≡ 0
 
 -- the records are rows with these events and this number of receivers, and each slot can be taken: a group comes at

@@ -1,7 +1,7 @@
 //! Whether what radios with the flag bit alone show was on air.
 ghost use Rattle.std.specs.Prelude.{◌≡◌, ◌≤◌, ◌<◌, ◌+◌, ◌*◌, ◌++◌, [], ℕ, IfOk, List, OnErr, OnOk, length, map, true};
 ghost use Rattle.rds_receiver.specs.Shown.{ShownView};
-ghost use Rattle.rds_view_lines.specs.KeptView.{view_kept};
+ghost use Rattle.rds_view_lines.specs.KeptView.{view_shown};
 ghost use Rattle.rds_view_lines.specs.Output.{nothing_shown as none_shown};
 ghost use Rattle.rds_view_lines.specs.Part.{prefix_of};
 ghost use Rattle.rds_view_lines.specs.declared.change.TheConstants.{SLOT_ROOM};
@@ -20,7 +20,7 @@ use crate::airing::{Airing, Airings};
 use crate::airs::Airs;
 use crate::watched::RowLines;
 use arrayvec::ArrayVec;
-use rds_view_lines::{KeptView, Prefix, SLOT_ROOM};
+use rds_view_lines::{Prefix, SLOT_ROOM, Shown};
 use rds_world::{Config, MOST_RECEIVERS, World};
 use std::alloc::{AllocError, Global};
 
@@ -59,12 +59,12 @@ impl Compared {
     /// Goes on by one slot: appends what changed on air, and which parts of the views are something else than before.
     // Cold path.
     #[inline(never)]
-    fn push(&mut self, slot: u64, world: &World, shown: &[KeptView], lines: &mut RowLines)
+    fn push(&mut self, slot: u64, world: &World, shown: &[Shown], lines: &mut RowLines)
         requires few { length shown.now ≤ MOST_RECEIVERS }
         requires memory { AirsHaveRoom self.old.airs }
         requires room { length lines.old + COMPARED_ROOM ≤ OUTPUT_ROOM }
         ensures goes_on { WhereWorldStands world.now (λ config events. GoesOnCompared
-            (record { config = config; slot = slot; shown = map view_kept shown.now }) events self.old self.new
+            (record { config = config; slot = slot; shown = map view_shown shown.now }) events self.old self.new
             lines.old lines.new) }
     {
         self.airs.step(slot, world, lines);
@@ -124,14 +124,14 @@ pub(crate) fn compare(
     compared: &mut Option<Compared>,
     slot: u64,
     world: &World,
-    shown: &[KeptView],
+    shown: &[Shown],
     lines: &mut RowLines,
 )
     requires few { length shown.now ≤ MOST_RECEIVERS }
     requires memory { HasRoom compared.old }
     requires room { length lines.old + COMPARED_ROOM ≤ OUTPUT_ROOM }
     ensures { WhereWorldStands world.now (λ config events. Compares
-        (record { config = config; slot = slot; shown = map view_kept shown.now }) events compared.old compared.new
+        (record { config = config; slot = slot; shown = map view_shown shown.now }) events compared.old compared.new
         lines.old lines.new) }
 {
     if let Some(compared) = compared {
@@ -157,7 +157,7 @@ fn push_airings(
     slot: u64,
     world: &World,
     airs: &Airs,
-    shown: &[KeptView],
+    shown: &[Shown],
     kept: &mut [Airings],
     lines: &mut RowLines,
 )
@@ -167,9 +167,9 @@ fn push_airings(
         ++ airings_changes slot (length shown.now) (airings_at kept.old) (airings_at kept.new) }
     ensures each { length kept.old ≡ length shown.now → WhereWorldStands world.now (λ config events.
         AirsStand config events airs.now
-        → WereKept config (length shown.now) events kept.old (map view_kept shown.now)
+        → WereKept config (length shown.now) events kept.old (map view_shown shown.now)
         → (i : ℕ) → i < length shown.now
-        → airings_at kept.new i ≡ airings config events (view_at (map view_kept shown.now) i)) }
+        → airings_at kept.new i ≡ airings config events (view_at (map view_shown shown.now) i)) }
     ensures count { length kept.new ≡ length kept.old }
 {
     for i in 0..shown.len() {
@@ -181,7 +181,7 @@ fn push_airings(
         } else {
             Some(kept[i])
         };
-        let now = airs.airings_of(shown[i].view(), before);
+        let now = airs.airings_of(shown[i].view.view(), before);
         push_changed(Prefix::Receiver(slot, i), kept[i], now, lines);
         kept[i] = now;
     }

@@ -50,12 +50,13 @@ pub fn simulate<R: TellingRead + Drop, W: TellingWrite>(
     writer: &mut W,
     config: Config,
 ) -> Result<(), LogFault>
-    ensures { Plays (with_form (forms.Simulation false 11) config) (2 ^ 32) (reading R.remaining R.failures reader)
+    ensures { Plays (with_form (forms.Simulation false 11 0) config) (2 ^ 32) (reading R.remaining R.failures reader)
         (traffic W.contents W.failures writer.old writer.new) result }
 {
     let form = Form::Simulation {
         says_why: false,
         rtplus: TagGroup::usual(),
+        keep: 0,
     };
     let playing = Playing { form, config };
     play_script(

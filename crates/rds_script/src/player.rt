@@ -32,6 +32,7 @@ pub(crate) struct Player {
 
 impl Player {
     ghost use Rattle.rds_script.specs.Inside.Player.{IsBegun, IsFirstOrAlone, IsRowRefused, PlayerStandsAt};
+    ghost use Rattle.rds_script.specs.Outcomes.{keep_of};
     ghost use Rattle.rds_script.specs.Play.{with_form};
     ghost use Rattle.rds_script.specs.Inside.Player.{AppendsRow, WherePlayerStands, nothing_played};
 
@@ -100,7 +101,7 @@ impl Player {
     fn begin(&mut self, receivers: usize) -> Result<(), RowRefused>
         requires few { receivers ≤ MOST_RECEIVERS }
         ensures begins { OnOk result ((w : Watched) × (self.new ≡ record self.old { watched = Some w })
-            × IsBegun self.old.config receivers self.old.watched w) }
+            × IsBegun (keep_of self.old.form self.old.config) self.old.config receivers self.old.watched w) }
         ensures memory { IfErr result (λ why. (why ≡ refused.Memory) × IsFirstOrAlone self.old.watched) }
     {
         match &mut self.watched {
@@ -115,11 +116,12 @@ impl Player {
     fn make_world(&mut self, receivers: usize) -> Result<(), RowRefused>
         requires few { receivers ≤ MOST_RECEIVERS }
         ensures made { OnOk result ((w : Watched) × (self.new ≡ record self.old { watched = Some w })
-            × IsBegun self.old.config receivers None w) }
+            × IsBegun (keep_of self.old.form self.old.config) self.old.config receivers None w) }
         ensures memory { IfErr result (λ why. why ≡ refused.Memory) }
         ensures kept { OnErr result (self.new ≡ self.old) }
     {
-        self.watched = Some(Watched::new(self.alloc, self.config, receivers)?);
+        let keep = self.form.keep(&self.config);
+        self.watched = Some(Watched::new(self.alloc, self.config, receivers, keep)?);
         Ok(())
     }
 }

@@ -1,6 +1,13 @@
 //! A world, and the changes of its receivers' views.
 ghost use Rattle.std.specs.Prelude.{◌≡◌, ◌≤◌, ◌<◌, ◌+◌, ◌*◌, ◌++◌, ◌∷◌, [], ℕ, IfErr, IfOk, OnErr, OnOk, length, map};
-ghost use Rattle.std.specs.Prelude.{slice_index_or, true};
+ghost use Rattle.std.specs.Prelude.{List, Option, false, slice_index_or, true};
+ghost use Rattle.rds_fields.specs.declared.message.Message.{Message};
+ghost use Rattle.rds_receiver.specs.Counts.{DisplayOf};
+ghost use Rattle.rds_receiver.specs.Shown.{ShownView};
+ghost use Rattle.rds_view_lines.specs.Output.{change, receiver_prefix};
+ghost use Rattle.rds_world.specs.Event.{Event};
+ghost use Rattle.rds_world.specs.Slots.{received};
+ghost use Rattle.rds_world.specs.WorldAt.{StaysShown, WorldAt};
 ghost use Rattle.rds_safety.specs.Late.{Input};
 ghost use Rattle.rds_world.specs.declared.event.Reception.TheVariants.{Lost};
 ghost use Rattle.rds_world.specs.declared.event.TheConstants.{MOST_RECEIVERS};
@@ -9,9 +16,9 @@ ghost use Rattle.rds_world.specs.State.{distance};
 ghost use Rattle.rds_world.specs.Slots.{input_of};
 ghost use Rattle.rds_world.specs.Replies.{CanBeTaken, IsStepRefused};
 ghost use Rattle.rds_world.specs.WorldAt.{HasHeard, IsViewOfInput, WhereWorldStands, tuned_to};
-ghost use Rattle.rds_view_lines.specs.KeptView.{view_kept};
+ghost use Rattle.rds_view_lines.specs.KeptView.{view_shown};
 ghost use Rattle.rds_script.specs.Inside.Compared.{HasRoom};
-ghost use Rattle.rds_script.specs.Inside.Watched.{AreKept, WereShown};
+ghost use Rattle.rds_script.specs.Inside.Watched.{AreDisplays, AreKept, DisplaysNext, IsDisplayAt};
 ghost use Rattle.rds_script.specs.Outcomes.{IsOutcome, Outcome, compared_lines, receiver_changes, slot_lines, view_at};
 ghost use Rattle.rds_script.specs.Outcomes.{whys_after, whys_at, whys_said};
 ghost use Rattle.rds_script.specs.declared.row.RowRefused.TheVariants as refused;
@@ -25,8 +32,8 @@ use crate::notes::{EarlySet, note_wait};
 use crate::row::RowRefused;
 use arrayvec::ArrayVec;
 use rds_io::Lines;
-use rds_receiver::{NOTHING_KEPT, Receiver, WhyNone, Whys};
-use rds_view_lines::{KeptView, Prefix, SLOT_ROOM, show};
+use rds_receiver::{Keeping, Kept, NOTHING_KEPT, Receiver, WhyNone, Whys};
+use rds_view_lines::{Prefix, SLOT_ROOM, Shown, show};
 use rds_world::{Config, MOST_RECEIVERS, Reception, SlotEvent, StepRefused, World};
 use std::alloc::Global;
 
@@ -40,27 +47,32 @@ pub(crate) const OUTPUT_ROOM: usize = 65536;
 /// The output of rows that waits to be written.
 pub(crate) type RowLines = Lines<OUTPUT_ROOM>;
 
-/// A world, and the view of each of its receivers at the end of the last slot. The views of radios with the flag bit
+/// A world, and the display of each of its receivers at the end of the last slot. The views of radios with the flag bit
 /// alone are compared with what was on air.
 #[derive(Drop)]
 pub(crate) struct Watched {
     world: World,
-    shown: ArrayVec<KeptView, MOST_RECEIVERS>,
+    /// For how many slots the displays keep a text and a name.
+    keep: u16,
+    shown: ArrayVec<Shown, MOST_RECEIVERS>,
     compared: Option<Compared>,
 }
 
 impl Watched {
     ghost use Rattle.rds_script.specs.Inside.Watched.{WatchedStandsAt, WhereWatchedStands, views_kept};
 
-    /// Makes a world with this many receivers, before its first slot.
-    #[tactic(auto, using(crate::proofs::PlayedRows::nothing_yet))]
+    /// Makes a world with this many receivers, before its first slot. Their displays keep a text and a name for `keep`
+    /// slots.
     pub(crate) fn new(
         alloc: Global,
         config: Config,
         receivers: usize,
+        keep: u16,
     ) -> Result<Watched, RowRefused>
         requires few { receivers ≤ MOST_RECEIVERS }
+        requires plain { config.kind.is_flag_alone ≡ true → keep ≡ 0 }
         ensures stands { IfOk result (λ w. WatchedStandsAt config receivers w []) }
+        ensures keep { IfOk result (λ w. w.keep ≡ keep) }
         ensures nothing { IfOk result (λ w. AreKept (views_kept w) []) }
         ensures room { IfOk result (λ w. HasRoom w.compared) }
         ensures memory { IfErr result (λ why. why ≡ refused.Memory) }
@@ -71,7 +83,8 @@ impl Watched {
         match World::new(alloc, config, receivers) {
             Ok(world) => Ok(Watched {
                 world,
-                shown: nothing_shown(receivers),
+                keep,
+                shown: nothing_shown(receivers, keep),
                 compared,
             }),
             Err(_) => Err(RowRefused::Memory),
@@ -89,6 +102,7 @@ impl Watched {
         ensures stands { WhereWatchedStands self.old (λ config receivers events.
             WatchedStandsAt config receivers self.new events) }
         ensures views { views_kept self.new ≡ views_kept self.old }
+        ensures keep { self.new.keep ≡ self.old.keep }
         ensures memory { IfErr result (λ why. (why ≡ refused.Memory)
             × WhereWatchedStands self.old (λ config _ _. config.kind.is_flag_alone ≡ true)) }
     {
@@ -114,11 +128,12 @@ impl Watched {
         ensures taken { WhereWatchedStands self.old (λ config receivers events.
             OnOk result (CanBeTaken config receivers event.now events)) }
         ensures outcome { WhereWatchedStands self.old (λ config receivers events.
-            OnOk result ((o : Outcome) × IsOutcome config event.now events o × (o.views ≡ views_kept self.new)
-            × (lines.new ≡ lines.old ++ (slot_lines form.now config slot event.now events (views_kept self.old) o
+            OnOk result ((o : Outcome) × IsOutcome self.old.keep config event.now events o
+            × (o.views ≡ views_kept self.new) × (lines.new ≡ lines.old ++ (slot_lines form.now config slot event.now events (views_kept self.old) o
             ++ compared_lines config slot (length o.views) event.now events (views_kept self.old) o.views)))) }
         ensures refused { WhereWatchedStands self.old (λ config receivers events.
             IfErr result (IsStepRefused config receivers event.now events)) }
+        ensures keep { self.new.keep ≡ self.old.keep }
         ensures kept { OnErr result (self.new ≡ self.old) }
         ensures no_lines { OnErr result (lines.new ≡ lines.old) }
     {
@@ -131,6 +146,7 @@ impl Watched {
                     slot,
                     &self.world,
                     event,
+                    self.keep,
                     self.shown.as_mut_slice(),
                     lines,
                 );
@@ -155,61 +171,109 @@ impl Watched {
     }
 }
 
-/// Returns the views of this many receivers that show nothing.
-fn nothing_shown(receivers: usize) -> ArrayVec<KeptView, MOST_RECEIVERS>
+/// Returns the displays of this many receivers that show nothing. They keep a text and a name for `keep` slots.
+fn nothing_shown(receivers: usize, keep: u16) -> ArrayVec<Shown, MOST_RECEIVERS>
     requires { receivers ≤ MOST_RECEIVERS }
-    ensures nothing { AreKept (map view_kept result.items) [] }
+    ensures displays { (config : Config) → AreDisplays keep config [] result.items }
+    ensures nothing { AreKept (map view_shown result.items) [] }
     ensures count { length result.items ≡ receivers }
 {
     let mut shown = ArrayVec::new();
     for _ in 0..receivers {
-        shown.push(KeptView::new());
+        shown.push(Shown::new(keep));
     }
     shown
 }
 
-/// Appends the changes at each receiver, and keeps its view. Skips a receiver whose view did not change. In most slots
-/// none did.
+/// Ends a slot of each display, and appends what changes on it. In most slots nothing does.
 fn push_views(
     form: &Form,
     slot: u64,
     world: &World,
     event: &SlotEvent,
-    shown: &mut [KeptView],
+    keep: u16,
+    shown: &mut [Shown],
     lines: &mut RowLines,
 )
     requires few { length shown.old ≤ MOST_RECEIVERS }
     requires room { length lines.old + MOST_RECEIVERS * SLOT_ROOM ≤ OUTPUT_ROOM }
     ensures lines { length shown.old ≡ length world.now.receivers
         → WhereWorldStands world.now (λ config events. lines.new ≡ lines.old ++ receiver_changes slot (length shown.old)
-        (whys_at form.now config event.now.receptions events) (map view_kept shown.old) (map view_kept shown.new)) }
-    ensures views { length shown.old ≡ length world.now.receivers
-        → WhereWorldStands world.now (λ config events.
-        WereShown config (length shown.old) events (map view_kept shown.old)
-        → (i : ℕ) → i < length shown.old
-        → IsViewOfInput config (input_of (distance config) i events) (view_at (map view_kept shown.new) i)) }
+        (whys_at form.now config event.now.receptions events) (map view_shown shown.old) (map view_shown shown.new)) }
+    ensures displays { length shown.old ≡ length world.now.receivers → (config : Config) (before : List Event)
+        → WorldAt config world.now (event.now ∷ before) → AreDisplays keep config before shown.old
+        → AreDisplays keep config (event.now ∷ before) shown.new }
     ensures count { length shown.new ≡ length shown.old }
     ensures room { length lines.new ≤ length lines.old + MOST_RECEIVERS * SLOT_ROOM }
 {
-    if !world.any_changed() {
+    if keep == 0 && !world.any_changed() {
         return;
     }
     for i in 0..shown.len() {
-        if !world.changed(i) {
-            continue;
+        push_view(form, slot, world, event, i, &mut shown[i], lines);
+    }
+}
+
+/// Ends a slot of the display of receiver i, and appends what changes on it.
+fn push_view(
+    form: &Form,
+    slot: u64,
+    world: &World,
+    event: &SlotEvent,
+    i: usize,
+    shown: &mut Shown,
+    lines: &mut RowLines,
+)
+    requires { length lines.old + SLOT_ROOM ≤ OUTPUT_ROOM }
+    ensures changes { i < length world.now.receivers → WhereWorldStands world.now (λ config events.
+        lines.new ≡ lines.old ++ change (receiver_prefix slot i)
+        (whys_at form.now config event.now.receptions events i) (view_shown shown.old) (view_shown shown.new)) }
+    ensures display { i < length world.now.receivers → (n : ℕ) (config : Config) (before : List Event)
+        → WorldAt config world.now (event.now ∷ before)
+        → IsDisplayAt n config (input_of (distance config) i before) shown.old
+        → IsDisplayAt n config (input_of (distance config) i (event.now ∷ before)) shown.new }
+    ensures room { length lines.new ≤ length lines.old + SLOT_ROOM }
+{
+    let Some(receiver) = world.receiver(i) else {
+        return;
+    };
+    let reception = reception_of(event, i);
+    let Some(kept) = end_slot(&mut shown.keeping, reception, receiver, world.changed(i)) else {
+        return;
+    };
+    let whys = whys_of(form, event, i, receiver);
+    show(
+        Prefix::Receiver(slot, i),
+        whys,
+        kept,
+        &mut shown.view,
+        receiver,
+        lines,
+    );
+}
+
+/// Ends a slot of what a display counts. A restart of the receiver starts the display anew. Returns which parts the
+/// display keeps, or `None` if nothing changes that it shows.
+fn end_slot(
+    keeping: &mut Keeping,
+    reception: Reception,
+    receiver: &Receiver,
+    is_changed: bool,
+) -> Option<Kept>
+    ensures { (n : ℕ) (config : Config) (slot : ℕ) (sent : List (Option Message)) (input : Input) (view : ShownView)
+        → HasHeard config (received reception slot sent input) receiver.now
+        → (is_changed ≡ false → StaysShown config input (received reception slot sent input))
+        → DisplayOf n (tuned_to config input) keeping.old view input.heard
+        → DisplaysNext n config (received reception slot sent input) keeping.new view result }
+{
+    match reception {
+        Reception::Restart => {
+            *keeping = Keeping::new(keeping.keep);
+            Some(NOTHING_KEPT)
         }
-        let Some(receiver) = world.receiver(i) else {
-            return;
-        };
-        let whys = whys_of(form, event, i, receiver);
-        show(
-            Prefix::Receiver(slot, i),
-            whys,
-            NOTHING_KEPT,
-            &mut shown[i],
-            receiver,
-            lines,
-        );
+        Reception::Got(_) | Reception::Lost | Reception::Wrong(_) => {
+            keeping.slot(receiver, is_changed)
+        }
     }
 }
 

@@ -3,6 +3,7 @@ use Rattle.std.specs.Prelude.{ℕ, List, Option, option_map}
 use Rattle.arrayvec.specs.ArrayVec.{ArrayVec}
 use Rattle.rds_receiver.specs.Shown.{ShownView}
 use Rattle.rds_view_lines.specs.declared.kept.KeptView.{KeptView}
+use Rattle.rds_view_lines.specs.declared.shown.Shown.{Shown}
 
 -- the bytes of a text or a name that is kept
 abbrev pub text_kept : Option (ArrayVec ℕ) → Option (List ℕ)
@@ -21,3 +22,7 @@ view_kept v = record {
   one = tag_kept v.one;
   two = tag_kept v.two;
 }
+
+-- the view that is displayed of a receiver
+abbrev pub view_shown : Shown → ShownView
+view_shown s = view_kept s.view

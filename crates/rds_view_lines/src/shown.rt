@@ -1,5 +1,5 @@
 //! What is displayed of a receiver, and the lines of its changes.
-ghost use Rattle.std.specs.Prelude.{◌≡◌, ◌≤◌, ◌+◌, ◌++◌, length};
+ghost use Rattle.std.specs.Prelude.{◌≡◌, ◌≤◌, ◌+◌, ◌++◌, [], length};
 ghost use Rattle.rds_view_lines.specs.declared.change.TheConstants.{SLOT_ROOM};
 ghost use Rattle.rds_receiver.specs.Borrowed.{view_of};
 ghost use Rattle.rds_receiver.specs.Counts.{keeping};
@@ -20,6 +20,32 @@ pub struct Shown {
     pub view: KeptView,
     /// For how long a text and a name are kept.
     pub keeping: Keeping,
+}
+
+impl Shown {
+    ghost use Rattle.rds_receiver.specs.Counts.{DisplayOf};
+    ghost use Rattle.rds_receiver.specs.Receipts.{Tuning};
+    ghost use Rattle.rds_view_lines.specs.KeptView.{view_shown};
+    ghost use Rattle.rds_view_lines.specs.Output.{nothing_shown};
+
+    /// Starts before the first slot of a receiver, with nothing shown. A text and a name are kept for `keep` slots.
+    pub fn new(keep: u16) -> Shown
+        ensures keep { result.keeping.keep ≡ keep }
+        ensures nothing { view_shown result ≡ nothing_shown }
+        ensures stands { (t : Tuning) → DisplayOf keep t result.keeping (view_shown result) [] }
+    {
+        Shown {
+            view: KeptView::new(),
+            keeping: Keeping::new(keep),
+        }
+    }
+}
+
+impl Default for Shown {
+    /// Starts a display that keeps nothing.
+    fn default() -> Shown {
+        Shown::new(0)
+    }
 }
 
 /// Returns the view of a display that keeps these parts of what it showed before. The others are those of the receiver.

@@ -335,7 +335,7 @@ joined text reply line changes none =
     ∙ sym (append-nil ((reply ++ line) ++ changes)))
 
 cut_of : (n : ℕ) (h : Head) (m k : ℕ) (events : List Event) (outcomes : List Outcome) → MayCarryTags n → IsHead h
-    → HasNoReceivers events → AreOutcomes (station_of h m k) events outcomes
+    → HasNoReceivers events → AreOutcomes 0 (station_of h m k) events outcomes
     → HasCut n (lines_of (Log n) (station_of h m k) events outcomes) (groups_sent outcomes)
 cut_of n h m k [] [] may head none are = record { cut = []; text_is = refl; lines = All-nil IsLine; say = refl }
 cut_of n h m k (e ∷ before) (o ∷ older) may head none are =
@@ -346,6 +346,6 @@ cut_of n h m k _ _ may head none are = absurd are
 -- the output of `encode` is a log, and its slots are the groups that were sent
 pub encoded_cut : (n : ℕ) (h : Head) (m k : ℕ) (events : List Event) (outcomes : List Outcome) (log : List ℕ)
     → MayCarryTags n → IsHead h
-    → HasNoReceivers events → AreOutcomes (station_of h m k) events outcomes
+    → HasNoReceivers events → AreOutcomes 0 (station_of h m k) events outcomes
     → log ≡ lines_of (Log n) (station_of h m k) events outcomes → HasCut n log (groups_sent outcomes)
 encoded_cut n h m k events outcomes log may head none are is = grind (arith, same_text, cut_of)

@@ -111,7 +111,8 @@ rows_name_none config n _ _ none are = absurd are
 
 -- the groups that were sent are those of the log, and receivers of the programme hear its messages
 pub groups_are_heard : (config : Config) (events : List Event) (outcomes : List Outcome)
-    → AreOutcomes config events outcomes → AreHeard config.head.pi (groups_sent outcomes) (log (distance config) events)
+    → AreOutcomes 0 config events outcomes
+    → AreHeard config.head.pi (groups_sent outcomes) (log (distance config) events)
 groups_are_heard config [] [] are = refl
 groups_are_heard config (e ∷ before) (o ∷ older) are =
     grind (arith, groups_are_heard config before older are.1, groups_sent, hears_sent)

@@ -1,6 +1,6 @@
 -- Lemmas: the input of a receiver after one more slot, and one entry of a list after it was written.
 use Rattle.std.proofs.Common.{◌≡◌, ◌<◌, ℕ, zero, suc, Bool, true, false, List, [], ◌∷◌, Option, Some, None, refl, subst}
-use Rattle.std.proofs.Common.{◌||◌, take, arith, sym, ◌∙◌, ◌+◌, ◌≤◌, length, ◌⊎◌, ◌-◌, inl, inr, ◌≢◌, nat_eq, ◌++◌}
+use Rattle.std.proofs.Common.{◌||◌, take, arith, sym, ◌+◌, ◌≤◌, length, ◌⊎◌, ◌-◌, inl, inr, ◌≢◌, nat_eq, ◌++◌}
 use Rattle.std.proofs.Common.{drop, is_some, nat_lt, slice_get, slice_index_or, slice_set, IfSome, Contains}
 use Rattle.std.specs.List.{AllByRecursion}
 use Rattle.rds_block.specs.declared.group.Group.{Group}
@@ -9,8 +9,8 @@ use Rattle.rds_fields.specs.declared.message.Message.{Message}
 use Rattle.rds_encoder.specs.Sent.{IsSent}
 use Rattle.rds_receiver.specs.Receipts.{Hears}
 use Rattle.rds_receiver.specs.OneView.{heard_next, hears_spelled}
-use Rattle.rds_receiver.specs.Shown.{IsView, ShownView}
-use Rattle.rds_receiver.specs.ReceiverAt.{KeepsView, TakesSlot}
+use Rattle.rds_receiver.specs.Shown.{ShownView}
+use Rattle.rds_receiver.specs.ReceiverAt.{KeepsShowing, KeepsView, TakesSlot}
 use Rattle.rds_safety.specs.Late.{Input, HasEntry, IsHeardLate}
 use Rattle.rds_receiver.specs.declared.receiver.Receiver.{Receiver}
 use Rattle.rds_world.specs.WorldAt.{HasHeard, HeardNothing, StaysShown, tuned_to, AreLastSent, AllHaveHeard, HavePasts}
@@ -57,19 +57,21 @@ hears_more config input old new group heard origin hears goes_on has = record {
   stands = goes_on (tuned_to config input) has.groups has.stands;
 }
 
--- one more group was handled, and the view did not change
+-- one more group was handled, and nothing that is shown changed
 pub stays_shown : (config : Config) (input : Input) (old : Receiver) (group : Option Group)
     (heard : Option Message) (origin : Option ℕ)
-    → Hears config.head.pi group heard → KeepsView old group
+    → Hears config.head.pi group heard → KeepsView old group → KeepsShowing old group
     → HasHeard config input old
     → StaysShown config input (input_from input.first (heard ∷ input.heard) (origin ∷ input.origins))
-stays_shown config input old group heard origin hears stays has view shown =
-    let by_own : IsView (tuned_to config input) has.groups view =
-    rw (sym shown.spelled ∙ has.spelled) at shown.is in
+stays_shown config input old group heard origin hears stays goes has =
+    let t = tuned_to config input in
+    let spelled = heard_next config.head.pi group has.groups heard input.heard hears has.spelled in
     record {
-      groups = group ∷ has.groups;
-      spelled = heard_next config.head.pi group has.groups heard input.heard hears has.spelled;
-      is = stays view (tuned_to config input) has.groups has.stands by_own;
+      first = refl;
+      message = heard;
+      heard = refl;
+      view = λ view shown. rw spelled (stays view t has.groups has.stands (rw has.spelled at shown));
+      goes_on = rw (spelled, has.spelled) (goes t has.groups has.stands);
     }
 
 -- a receiver before its first slot has heard nothing
@@ -371,4 +373,4 @@ shows_what_it_heard config w i events st None there is = tt
 shows_what_it_heard config w i events st (Some r) there is = λ view shows.
     let at : slice_get w.receivers i ≡ Some r.now = search (arith, slice_get_read) in
     let has = st.receivers.each i r.now at in
-    search arith
+    rw has.spelled (shows (tuned_to config (input_of (distance config) i events)) has.groups has.stands)

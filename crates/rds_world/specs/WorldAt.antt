@@ -5,8 +5,10 @@ use Rattle.circular_buffer.specs.Buffer.{Buffer, buffer}
 use Rattle.rds_block.specs.declared.group.Group.{Group}
 use Rattle.rds_fields.specs.declared.message.Message.{Message}
 use Rattle.rds_encoder.specs.EncoderAt.{EncoderAt}
+use Rattle.rds_receiver.specs.Confirmed.{counted}
+use Rattle.rds_receiver.specs.Kept.{GoesOnBy}
 use Rattle.rds_receiver.specs.Receipts.{AreHeard, Hears, Tuning}
-use Rattle.rds_receiver.specs.Shown.{IsView, ShownView}
+use Rattle.rds_receiver.specs.Shown.{IsView, ShownView, ShowsView}
 use Rattle.rds_receiver.specs.ReceiverAt.{ReceiverAt, WhereReceiverStands}
 use Rattle.rds_world.specs.declared.event.Reception.{Reception}
 use Rattle.rds_world.specs.declared.event.Reception.TheVariants.{Lost}
@@ -75,18 +77,20 @@ pub record HavePasts (window : Option ℕ) (events : List Event) (pasts : List (
   pub each : (i : ℕ) (past : Buffer (Option Message)) → slice_get pasts i ≡ Some past
       → past ≡ buffer (take (slots_back window) (wrong_of i events)) (slots_back window)
 
--- the view of groups whose messages are the input
-pub record IsViewOfInput (config : Config) (input : Input) (view : ShownView) : Type 0 where
-  pub groups : List (Option Group)
-  pub spelled : AreHeard config.head.pi groups input.heard
-  pub is : IsView (tuned_to config input) groups view
+-- the view after what was heard in the input
+abbrev pub IsViewOfInput : Config → Input → ShownView → Type 0
+IsViewOfInput config input view =
+    let t = tuned_to config input in ShowsView t.dwell t.first (counted t input.heard) view
 
--- the view after the input before is the view after this one
-abbrev pub StaysShown : Config → Input → Input → Type 0
-StaysShown config before after =
-    (view : ShownView) → IsViewOfInput config before view → IsViewOfInput config after view
+-- the slot between these inputs was no restart, and nothing that is shown changed in it
+pub record StaysShown (config : Config) (before after : Input) : Type 0 where
+  pub first : after.first ≡ before.first
+  pub message : Option Message
+  pub heard : after.heard ≡ message ∷ before.heard
+  pub view : (view : ShownView) → IsViewOfInput config before view → IsViewOfInput config after view
+  pub goes_on : GoesOnBy (tuned_to config before) before.heard after.heard
 
--- the newest slot did not change the view of receiver i
+-- the newest slot changed nothing that receiver i shows
 abbrev pub ShowsStill : Config → ℕ → List Event → Type 0
 ShowsStill config i [] = Unit {0}
 ShowsStill config i (e ∷ before) =

@@ -206,7 +206,7 @@ impl World {
         self.receivers[..self.count].get(i)
     }
 
-    /// Returns false only if receiver i shows what it showed before the last slot.
+    /// Returns false only if the last slot was no restart of receiver i, and changed nothing that it shows.
     pub fn changed(&self, i: usize) -> bool
         ensures { IsFalse result → WhereWorldStands self.now
             (λ config events. ShowsStill config i events) }
@@ -217,7 +217,7 @@ impl World {
         }
     }
 
-    /// Returns false only if each receiver shows what it showed before the last slot.
+    /// Returns false only if the last slot restarted no receiver, and changed nothing that any of them shows.
     pub fn any_changed(&self) -> bool
         ensures { IsFalse result → WhereWorldStands self.now (λ config events.
             (i : ℕ) → i < length self.now.receivers → ShowsStill config i events) }

@@ -132,8 +132,9 @@ HasRoom (Some c) = AirsHaveRoom c.airs
 abbrev pub Compares : SlotViews → List Event → Option Compared → Option Compared → List ℕ → List ℕ → Type 0
 Compares at [] old new lines after = Unit {0}
 Compares at (e ∷ before) old new lines after =
-    (views : List ShownView) → AreShown at.config (length at.shown) before views
-    → AreShown at.config (length at.shown) (e ∷ before) at.shown
+    (views : List ShownView)
+    → (at.config.kind.is_flag_alone ≡ true → AreShown at.config (length at.shown) before views)
+    → (at.config.kind.is_flag_alone ≡ true → AreShown at.config (length at.shown) (e ∷ before) at.shown)
     → IsCompared at.config (length at.shown) before views old
     → IsCompared at.config (length at.shown) (e ∷ before) at.shown new
     × (after ≡ lines ++ compared_lines at.config at.slot (length at.shown) e before views at.shown)

@@ -12,7 +12,7 @@ use Rattle.rds_script.specs.Inside.FailureFlag.{asked_bytes}
 use Rattle.rds_script.specs.Inside.Compared.{HasRoom}
 use Rattle.rds_script.specs.Inside.Watched.{AreKept, WatchedStandsAt, WhereWatchedStands, views_kept}
 use Rattle.rds_script.specs.Rows.{AreNoRows, AreRows, IsAllowed, Record}
-use Rattle.rds_script.specs.Outcomes.{AreOutcomes, Outcome, lines_of, newest_views}
+use Rattle.rds_script.specs.Outcomes.{keep_of, AreOutcomes, Outcome, lines_of, newest_views}
 use Rattle.rds_script.specs.Play.{HasAllRecords, HasRecords, RecordsUpTo}
 use Rattle.rds_io.specs.declared.fault.LogFault.{LogFault}
 use Rattle.rds_io.specs.declared.fault.LogFault.TheVariants.{BadLine, BadRow, Memory, Read, TooLong, Write}
@@ -40,12 +40,13 @@ pub record ScriptStandsAt {R : Type 0} {g h : _} (remaining : R → Option (List
 abbrev pub IsReadFault : Type 0 → LogFault → Type 0
 IsReadFault ReadFailed fault = (fault ≡ Memory) ⊎ ((fault ≡ Read) × ReadFailed)
 
--- after the first slot there is a world whose receivers are watched, and the kept views are those of the newest
--- outcome; before it there is no world
-abbrev pub HasWatched : Config → ℕ → Option Watched → List Event → List Outcome → Type 0
-HasWatched config receivers None events outcomes = events ≡ []
-HasWatched config receivers (Some w) events outcomes =
+-- after the first slot there is a world whose receivers are watched, with displays that keep for n slots, and the
+-- views are those of the newest outcome; before it there is no world
+abbrev pub HasWatched : ℕ → Config → ℕ → Option Watched → List Event → List Outcome → Type 0
+HasWatched n config receivers None events outcomes = events ≡ []
+HasWatched n config receivers (Some w) events outcomes =
     (0 < length events) × WatchedStandsAt config receivers w events × AreKept (views_kept w) (newest_views outcomes)
+    × (w.keep ≡ n)
 
 -- the history of a player: its form, its station, its number of receivers, its records, and their lines
 pub record Played : Type 0 where
@@ -77,9 +78,9 @@ pub record PlayerStandsAt (p : Player) (played : Played) : Type 0 where
   pub events : List Event
   pub rows : AreRows played.config played.receivers played.records events
   pub outcomes : List Outcome
-  pub are : AreOutcomes played.config events outcomes
+  pub are : AreOutcomes (keep_of played.form played.config) played.config events outcomes
   pub slot : p.slot ≡ length outcomes
-  pub watched : HasWatched played.config played.receivers p.watched events outcomes
+  pub watched : HasWatched (keep_of played.form played.config) played.config played.receivers p.watched events outcomes
   pub lines : played.written ≡ lines_of played.form played.config events outcomes
 
 -- for each state of the player: this holds of its history
@@ -94,14 +95,14 @@ PlaysRow p row lines before = (receivers : ℕ) × PlayerStandsAt p (with_row re
 abbrev pub AppendsRow : Player → Record → List ℕ → List ℕ → Played → Type 0
 AppendsRow p row old new before = (lines : List ℕ) × (new ≡ old ++ lines) × PlaysRow p row lines before
 
--- the world that is watched if there was this one or none: it stands and shows what it did, and has memory for one more
--- slot
-abbrev pub IsBegun : Config → ℕ → Option Watched → Watched → Type 0
-IsBegun config receivers None w =
-    WatchedStandsAt config receivers w [] × AreKept (views_kept w) [] × HasRoom w.compared
-IsBegun config receivers (Some before) w =
+-- the world that is watched if there was this one or none: it stands and shows what it did, with displays that keep for
+-- n slots, and has memory for one more slot
+abbrev pub IsBegun : ℕ → Config → ℕ → Option Watched → Watched → Type 0
+IsBegun n config receivers None w =
+    WatchedStandsAt config receivers w [] × AreKept (views_kept w) [] × HasRoom w.compared × (w.keep ≡ n)
+IsBegun n config receivers (Some before) w =
     WhereWatchedStands before (λ c n events. WatchedStandsAt c n w events) × (views_kept w ≡ views_kept before)
-    × HasRoom w.compared
+    × HasRoom w.compared × (w.keep ≡ before.keep)
 
 -- there was no world, or its receivers are radios with the flag bit alone
 abbrev pub IsFirstOrAlone : Option Watched → Type 0

@@ -53,6 +53,8 @@ returns c = record {
   sim_flag_alone = record { taken = refl; ask = refl };
   sim_why = record { taken = refl; ask = refl };
   sim_confirm = record { taken = refl; ask = refl };
+  sim_keep = record { taken = refl; ask = refl };
+  sim_long_keep = refl;
   sim_quiet = record { taken = refl; ask = refl };
   slots_json_notes = record { taken = refl; ask = refl };
   help = refl;

@@ -4,7 +4,7 @@ use Rattle.std.proofs.lemmas.Grind.{common_steps, get_or-set_at}
 use Rattle.std.proofs.lemmas.List.{get_or-map, get_or-set_other, get_or_default}
 use Rattle.rds_receiver.specs.Borrowed.{view_of}
 use Rattle.rds_receiver.specs.Shown.{ShownView}
-use Rattle.rds_view_lines.specs.KeptView.{view_kept}
+use Rattle.rds_view_lines.specs.KeptView.{view_shown}
 use Rattle.rds_view_lines.specs.Output.{nothing_shown, receiver_prefix}
 use Rattle.rds_world.specs.Event.{Event}
 use Rattle.rds_world.specs.WorldAt.{WorldAt}
@@ -29,19 +29,19 @@ loop-i-preserved c =
     let within : i < length old = omega (arith, c.if-i-kept.false) in
     let other = λ (j : ℕ) (ne : j ≢ i). get_or-set_other old i j now all_on_air ne in
     let here : airings_at new i ≡ now = get_or-set_at old i i now all_on_air refl within in
-    let view = c.view.ensures ∙ ap view_kept c.index-shown-i.is
-    ∙ sym (get_or-map view_kept c.args.shown.now i c.index-shown-i.result nothing_shown
+    let view = c.view.ensures
+    ∙ sym (get_or-map view_shown c.args.shown.now i c.index-shown-i.result nothing_shown
     (omega (arith, c.loop-i-test.true))) in
     let at = get_or_default old i _ all_on_air within ∙ c.loop-i.invariant.later i (omega arith) in
     let kept_before : (config : Config) (events : List Event) → WorldAt config c.args.world.now events
-    → WereKept config (length c.args.shown.now) events c.args.kept.now (map view_kept c.args.shown.now)
+    → WereKept config (length c.args.shown.now) events c.args.kept.now (map view_shown c.args.shown.now)
     → WereBefore config events (view_of c.view.result) c.if-changed.before =
     λ config events st were. elim c.if-changed.branch [
       | then-changed w ↦ subst (λ (o : Option Airings). WereBefore config events (view_of c.view.result) o)
           (sym w.before-is) (none_before config events (view_of c.view.result))
       | else-changed w ↦ (
           let before = w.before-is ∙ ap Some at in
-          let still = still_before config (length c.args.shown.now) i events (map view_kept c.args.shown.now)
+          let still = still_before config (length c.args.shown.now) i events (map view_shown c.args.shown.now)
           c.args.kept.now (c.changed.ensures w.if-changed.false config events st) were (omega (arith, c.loop-i-test.true)) in
           subst (λ (o : Option Airings). WereBefore config events (view_of c.view.result) o) (sym before)
           (subst (λ (v : ShownView). WereBefore config events v (Some (airings_at c.args.kept.now i))) (sym view) still)
@@ -49,8 +49,8 @@ loop-i-preserved c =
     ] in
     let shown : (config : Config) (events : List Event) → WorldAt config c.args.world.now events
     → AirsStand config events c.args.airs.now
-    → WereKept config (length c.args.shown.now) events c.args.kept.now (map view_kept c.args.shown.now)
-    → now ≡ airings config events (view_at (map view_kept c.args.shown.now) i) =
+    → WereKept config (length c.args.shown.now) events c.args.kept.now (map view_shown c.args.shown.now)
+    → now ≡ airings config events (view_at (map view_shown c.args.shown.now) i) =
     λ config events st stand were. c.airings_of-now.ensures config events stand (kept_before config events st were)
     ∙ ap (λ (v : ShownView). airings config events v) view in
     record {
@@ -65,7 +65,7 @@ loop-i-preserved c =
       each = λ config events st stand were j below. elim (at_last j i below) [
         | inl less ↦ other j (λ e. omega (arith, e, less)) ∙ c.loop-i.invariant.each config events st stand were j less
         | inr same ↦ subst (λ (n : ℕ). airings_at new n ≡ airings config events
-            (view_at (map view_kept c.args.shown.now) n)) (sym same) (here ∙ shown config events st stand were)
+            (view_at (map view_shown c.args.shown.now) n)) (sym same) (here ∙ shown config events st stand were)
       ];
       later = λ j l. other j (λ e. omega (arith, e, l)) ∙ c.loop-i.invariant.later j (omega (arith, l));
     }

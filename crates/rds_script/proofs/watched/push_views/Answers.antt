@@ -1,47 +1,75 @@
-use Rattle.std.proofs.Common.{◌<◌, ◌∙◌, arith, inl, inr, length, subst, sym}
+use Rattle.std.proofs.Common.{◌≡◌, ◌<◌, ◌∙◌, ◌∷◌, ℕ, arith, false, get_or, inl, inr, length, refl, set, subst, sym}
 use Rattle.std.proofs.lemmas.Grind.{common_steps}
-use Rattle.rds_receiver.specs.Shown.{IsView}
+use Rattle.std.proofs.lemmas.List.{get_or-set_same}
+use Rattle.std.proofs.lemmas.Option.{get_or_from_slice_get, slice_get-get_or, slice_get_within}
+use Rattle.rds_view_lines.specs.declared.shown.Shown.{Shown}
 use Rattle.rds_world.specs.Slots.{input_of}
 use Rattle.rds_world.specs.State.{distance}
-use Rattle.rds_view_lines.specs.KeptView.{view_kept}
+use Rattle.rds_script.specs.Inside.Watched.{IsDisplayAt}
 use Rattle.rds_script.specs.Outcomes.{whys_at}
-use Rattle.rds_script.proofs.OneOutcome.{at_last, at_set, next_changes, no_changes, none_changes, other_set}
-use Rattle.rds_script.proofs.OneOutcome.{stay_changes}
-use Rattle.rds_script.proofs.PlayedRows.{still_shown}
+use Rattle.rds_script.proofs.Displays.{other_display, plain_displays}
+use Rattle.rds_script.proofs.OneOutcome.{at_last, next_changes, no_changes, none_changes, other_set}
 use Rattle.rds_script.proofs.watched.push_views.Goals as goal
 
 pub loop-i-init : goal.loop-i-init
-loop-i-init c = grind (arith, no_changes)
+loop-i-init c = record {
+  count = refl;
+  room = omega arith;
+  lines = λ count config events st. no_changes c.args.slot
+      (whys_at c.args.form.now config c.args.event.now.receptions events) c.args.lines.now _ _;
+  displays = λ count config before st are k s below at. absurd (omega (arith, below));
+  later = λ k l. refl;
+  same = λ k l. refl;
+}
 
 pub loop-i-preserved : goal.loop-i-preserved
 loop-i-preserved c =
-    let within : c.loop-i.i < length c.loop-i.shown = omega (arith, c.loop-i-test.true, c.loop-i.invariant.count) in
+    let i = c.loop-i.i in
+    let shown = c.loop-i.shown in
+    let new = c.push_view.new.shown in
+    let d = c.index-shown-i.result in
+    let within : i < length shown = omega (arith, c.loop-i-test.true, c.loop-i.invariant.count) in
     record {
       count = grind (arith, common_steps);
-      room = omega (arith, c.show.ensures.room, c.loop-i.invariant.room);
-      lines = λ config events s. next_changes c.args.slot c.loop-i.i
-          (whys_at c.args.form.now config c.args.event.now.receptions events) c.whys_of-whys.result
-          c.args.shown.now c.loop-i.shown c.index-shown-i.result c.show.new.shown c.args.lines.now c.loop-i.lines
-          c.show.new.lines within
-          c.loop-i.invariant.later (c.loop-i.invariant.lines config events s) c.show.ensures.changes
-          (c.whys_of-whys.ensures config (input_of (distance config) c.loop-i.i events) (c.in-Some.ensures.heard config
-          events s));
-      views = λ config events s were i below. elim (at_last i c.loop-i.i below) [
-        | inl less ↦ rw (other_set c.loop-i.shown c.loop-i.i i c.show.new.shown (λ e. omega (arith, e, less)))
-            (c.loop-i.invariant.views config events s were i less)
-        | inr same ↦ rw (same, at_set c.loop-i.shown c.loop-i.i c.show.new.shown within)
-            (c.in-Some.ensures.shows config events s (view_kept c.show.new.shown) (λ t input stands.
-            (let (now, view, is) = c.show.ensures.shows t input stands in subst (IsView t input) (sym is) view)))
+      room = omega (arith, c.push_view.ensures.room, c.loop-i.invariant.room);
+      lines = λ count config events st.
+          let whys = whys_at c.args.form.now config c.args.event.now.receptions events in
+          next_changes c.args.slot i whys (whys i) c.args.shown.now shown d new c.args.lines.now c.loop-i.lines
+          c.push_view.new.lines within c.loop-i.invariant.later (c.loop-i.invariant.lines count config events st)
+          (c.push_view.ensures.changes (omega (arith, c.loop-i-test.true, count)) config events st) refl;
+      displays = λ count config before st are k s below at. elim (at_last k i below) [
+        | inl less ↦ c.loop-i.invariant.displays count config before st are k s less
+            (sym (other_display shown i k new (λ e. omega (arith, e, less))) ∙ at)
+        | inr same ↦ (
+            let here : new ≡ s = sym (get_or-set_same shown i new d within)
+            ∙ get_or_from_slice_get (set shown i new) i s d (rw same at at) in
+            let old = are i (get_or shown i d) (sym (c.loop-i.invariant.same i (omega arith))
+            ∙ slice_get-get_or shown i d within) in
+            let next = c.push_view.ensures.display (omega (arith, c.loop-i-test.true, count)) c.args.keep config before
+            st old in
+            subst (λ (m : ℕ). IsDisplayAt c.args.keep config
+            (input_of (distance config) m (c.args.event.now ∷ before)) s) (sym same)
+            (subst (λ (x : Shown). IsDisplayAt c.args.keep config
+            (input_of (distance config) i (c.args.event.now ∷ before)) x) here next)
+            )
       ];
-      later = λ i l. other_set c.loop-i.shown c.loop-i.i i c.show.new.shown (λ e. omega (arith, e, l))
-          ∙ c.loop-i.invariant.later i (omega (arith, l));
+      later = λ k l. other_set shown i k new (λ e. omega (arith, e, l))
+          ∙ c.loop-i.invariant.later k (omega (arith, l));
+      same = λ k l. other_display shown i k new (λ e. omega (arith, e, l))
+          ∙ c.loop-i.invariant.same k (omega (arith, l));
     }
-
-pub loop-i-preserved-then-not-changed : goal.loop-i-preserved-then-not-changed
-loop-i-preserved-then-not-changed c = grind (arith, stay_changes, at_last, still_shown)
 
 pub returns-then-not-any_changed-clause-lines : goal.returns-then-not-any_changed-clause-lines
 returns-then-not-any_changed-clause-lines c same config events s = search none_changes
 
-pub returns-then-not-any_changed-clause-views : goal.returns-then-not-any_changed-clause-views
-returns-then-not-any_changed-clause-views c same config events s were i below = grind (arith, still_shown)
+pub returns-then-not-any_changed-clause-displays : goal.returns-then-not-any_changed-clause-displays
+returns-then-not-any_changed-clause-displays c count config before st are =
+    let none : c.args.keep ≡ 0 = search arith in
+    let calm : c.any_changed.result ≡ false = grind arith in
+    plain_displays c.args.keep config c.args.event.now before c.args.shown.now none are
+    (λ i within. c.any_changed.ensures calm config (c.args.event.now ∷ before) st i (rw count at within))
+
+pub returns-clause-displays : goal.returns-clause-displays
+returns-clause-displays c count config before st are k s at =
+    c.loop-i.invariant.displays count config before st are k s
+    (omega (arith, slice_get_within c.loop-i.shown k s at, c.loop-i.invariant.count)) at

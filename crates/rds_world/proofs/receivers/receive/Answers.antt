@@ -29,12 +29,12 @@ returns-in-Got-clause-same c slot sent input last kept due has same =
     let is_due = subst (λ (r : Reception). IsDue config.late slot last r) c.in-Got.is due in
     let hears : Hears config.head.pi c.back_from.result (sent_back back sent) = search arith in
     rw c.in-Got.is (stays_shown config input _ c.back_from.result (sent_back back sent) (Some (slot - back)) hears
-    (c.slot_blocks.ensures.same same) has)
+    (c.slot_blocks.ensures.same same) (c.slot_blocks.ensures.goes_on same) has)
 
 pub returns-in-Lost-clause-same : goal.returns-in-Lost-clause-same
 returns-in-Lost-clause-same c slot sent input last kept due has same =
     rw c.in-Lost.is (stays_shown c.args.config.now input _ None None None refl (c.slot_blocks-in-Lost.ensures.same same)
-    has)
+    (c.slot_blocks-in-Lost.ensures.goes_on same) has)
 
 pub returns-in-Wrong-clause-heard : goal.returns-in-Wrong-clause-heard
 returns-in-Wrong-clause-heard c slot sent input last kept due has =
@@ -44,4 +44,4 @@ returns-in-Wrong-clause-heard c slot sent input last kept due has =
 pub returns-in-Wrong-clause-same : goal.returns-in-Wrong-clause-same
 returns-in-Wrong-clause-same c slot sent input last kept due has same =
     rw c.in-Wrong.is (stays_shown c.args.config.now input _ (Some c.blocks_of.result) (Some c.in-Wrong.message) None
-    c.blocks_of.ensures (c.slot_blocks-in-Wrong.ensures.same same) has)
+    c.blocks_of.ensures (c.slot_blocks-in-Wrong.ensures.same same) (c.slot_blocks-in-Wrong.ensures.goes_on same) has)

@@ -5,16 +5,10 @@ pub returns-clause-stands : goal.returns-clause-stands
 returns-clause-stands c t begins = record {
   receiver = begins;
   says_why = refl;
-  display = record {
-    showings = [];
-    are = tt;
-    keep = c.new-2.ensures.keep;
-    counts = c.new-2.ensures.starts;
-    shows = c.new.ensures;
-  };
+  display = c.new.ensures.stands t;
   displays = [];
   are = tt;
   slot = refl;
-  shown = c.new.ensures;
+  shown = c.new.ensures.nothing;
   changes = refl;
 }

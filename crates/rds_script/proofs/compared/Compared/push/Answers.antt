@@ -3,7 +3,7 @@ use Rattle.std.proofs.Common.{map}
 use Rattle.std.proofs.lemmas.List.{length-map, take_at}
 use Rattle.arrayvec.specs.ArrayVec.{with_items}
 use Rattle.rds_receiver.specs.Shown.{ShownView}
-use Rattle.rds_view_lines.specs.KeptView.{view_kept}
+use Rattle.rds_view_lines.specs.KeptView.{view_shown}
 use Rattle.rds_view_lines.specs.Output.{air_prefix, change}
 use Rattle.rds_world.specs.Event.{Event}
 use Rattle.rds_world.specs.OnAir.{air_of}
@@ -20,18 +20,18 @@ pub returns : goal.returns
 returns c = record { goes_on = by }
   where
     by : (config : Config) (events : List Event) → WorldAt config c.args.world.now events
-        → GoesOnCompared (record { config = config; slot = c.args.slot; shown = map view_kept c.args.shown.now }) events
+        → GoesOnCompared (record { config = config; slot = c.args.slot; shown = map view_shown c.args.shown.now }) events
         c.args.self.now
         record { airs = c.step.new.self; airings = with_items c.args.self.now.airings c.push_airings.new.kept }
         c.args.lines.now c.push_airings.new.lines
     by config [] st = tt
     by config (e ∷ before) st = λ views were are old.
         let slot = c.args.slot in
-        let shown = map view_kept c.args.shown.now in
+        let shown = map view_shown c.args.shown.now in
         let had = c.args.self.now.airings.items in
         let new = c.push_airings.new.kept in
         let value = c.as_mut_slice.ensures.value in
-        let long : length shown ≡ length c.args.shown.now = length-map c.args.shown.now view_kept in
+        let long : length shown ≡ length c.args.shown.now = length-map c.args.shown.now view_shown in
         let as_many : length c.as_mut_slice.result.now ≡ length c.args.shown.now = ap length value ∙ old.count ∙ long in
         let airs : AirsStand config (e ∷ before) c.step.new.self = record {
           airs = c.step.ensures.airs config (e ∷ before) st ∙ ap (λ (l : List ShownView). air_of config (e ∷ before)

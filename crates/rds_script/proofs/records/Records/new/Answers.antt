@@ -1,4 +1,4 @@
-use Rattle.std.proofs.Common.{arith, refl, rules, sym, inr}
+use Rattle.std.proofs.Common.{arith}
 use Rattle.csv.specs.Reading.{Reached, strip_bom}
 use Rattle.rds_script.proofs.records.Records.new.Goals as goal
 

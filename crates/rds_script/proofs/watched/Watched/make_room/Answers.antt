@@ -7,6 +7,7 @@ returns-in-Ok-clause-stands c config receivers events s = record {
   world = s.world;
   count = s.count;
   kept = s.kept;
+  plain = s.plain;
   shown = s.shown;
   compared = c.in-Ok.ensures.stands config receivers events (views_kept c.args.self.now) s.compared;
 }
@@ -16,6 +17,7 @@ returns-in-Err-clause-stands c config receivers events s = record {
   world = s.world;
   count = s.count;
   kept = s.kept;
+  plain = s.plain;
   shown = s.shown;
   compared = c.in-Err.ensures.stands config receivers events (views_kept c.args.self.now) s.compared;
 }
