@@ -5,7 +5,11 @@
 #![tactic(auto)]
 
 #[cfg(test)]
+mod audit_engine;
+#[cfg(test)]
 mod log_notes;
+#[cfg(test)]
+mod logs;
 #[cfg(test)]
 mod programs;
 #[cfg(test)]

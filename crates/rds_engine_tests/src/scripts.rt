@@ -1,4 +1,4 @@
-//! Readers that fail, answers before the next read, and memory that is refused.
+//! Scripts without an end, readers that fail, and memory that is refused.
 
 use crate::same::same;
 use arrayvec::ArrayVec;
@@ -6,7 +6,7 @@ use rds_block::Place;
 use rds_fields::{Dwell, Head, Late};
 use rds_io::{LogFault, Told};
 use rds_receiver::Window;
-use rds_script::{encode, simulate};
+use rds_script::{encode, encode_within, simulate, simulate_within};
 use rds_world::{Config, ReceiverKind};
 use std::alloc::{AllocError, Global};
 use std::cell::Cell;
@@ -42,20 +42,61 @@ pub(crate) fn config(dwell: u16) -> Result<Config, Fail> {
     })
 }
 
-/// Gives at most 16 bytes of a script a read, and fails at a read.
+/// As many records as the bound are too many, whether or not the script ends there.
+#[test]
+fn too_long(rt: HostRuntime) -> Result<(), Fail> {
+    // Prover: variables of the types that `Config` holds, for the borrow checker (PROVER.md, "Workarounds").
+    let _dwell = Dwell::longest();
+    let _kind = ReceiverKind::with_dwell();
+    let _window: Option<Window> = None;
+    let wanted: [&[u8]; 4] = [
+        b"",
+        b"# 0 text silent 1\n---- ---- ---- ----\n",
+        ENCODED_LOG,
+        ENCODED_LOG,
+    ];
+    for (records, wanted) in wanted.iter().enumerate() {
+        let mut output = Vec::new(rt.alloc());
+        let done = encode_within(
+            rt.alloc(),
+            Told::new(ENCODED),
+            &mut Told::new(&mut output),
+            config(1)?,
+            records as u64,
+        );
+        same(&rt, output.as_slice(), *wanted);
+        same(
+            &rt,
+            done,
+            if records == 3 {
+                Ok(())
+            } else {
+                Err(LogFault::TooLong)
+            },
+        );
+    }
+    Ok(())
+}
+
+/// Gives a line again and again, or the bytes of a script, and fails at a read.
 #[derive(Drop)]
-struct Failing<'a> {
+struct Lasting<'a> {
+    line: &'a [u8],
     left: &'a [u8],
+    again: bool,
     fails_at: u64,
     error: ErrorKind,
     reads: &'a Cell<u64>,
 }
 
-impl Read for Failing<'_> {
+impl Read for Lasting<'_> {
     fn read(&mut self, buf: &mut [u8]) -> io::Result<usize> {
         self.reads.set(self.reads.get().wrapping_add(1));
         if self.reads.get() == self.fails_at {
             return Err(io::Error::from(self.error));
+        }
+        if self.left.is_empty() && self.again {
+            self.left = self.line;
         }
         let count = buf.len().min(self.left.len()).min(16);
         buf[..count].copy_from_slice(&self.left[..count]);
@@ -64,10 +105,37 @@ impl Read for Failing<'_> {
     }
 }
 
+#[test]
+fn endless_script(rt: HostRuntime) -> Result<(), Fail> {
+    // Prover: as in `too_long`.
+    let _dwell = Dwell::longest();
+    let _kind = ReceiverKind::with_dwell();
+    let _window: Option<Window> = None;
+    let reads = Cell::new(0);
+    let mut output = Vec::new(rt.alloc());
+    let done = simulate_within(
+        rt.alloc(),
+        Told::new(Lasting {
+            line: b"-,,1,G\n",
+            left: b"",
+            again: true,
+            fails_at: 0,
+            error: ErrorKind::Other,
+            reads: &reads,
+        }),
+        &mut Told::new(&mut output),
+        config(1000)?,
+        1000,
+    );
+    same(&rt, done, Err(LogFault::TooLong));
+    same(&rt, output.as_slice(), b"".as_slice());
+    Ok(())
+}
+
 /// Each read fails in turn: the output of the rows that were read is there, and nothing more is read.
 #[test]
 fn reader_fails(rt: HostRuntime) -> Result<(), Fail> {
-    // Prover: variables of the types that `Config` holds, for the borrow checker (PROVER.md, "Workarounds").
+    // Prover: as in `too_long`.
     let _dwell = Dwell::longest();
     let _kind = ReceiverKind::with_dwell();
     let _window: Option<Window> = None;
@@ -82,8 +150,10 @@ fn reader_fails(rt: HostRuntime) -> Result<(), Fail> {
             let mut output = Vec::new(rt.alloc());
             let done = simulate(
                 rt.alloc(),
-                Told::new(Failing {
+                Told::new(Lasting {
+                    line: b"",
                     left: SIMULATED,
+                    again: false,
                     fails_at,
                     error,
                     reads: &reads,
@@ -174,7 +244,7 @@ impl Write for Counting<'_> {
 /// All complete rows are answered before the next read, however the script is cut.
 #[test]
 fn answered_before_the_next_read(rt: HostRuntime) -> Result<(), Fail> {
-    // Prover: as in `reader_fails`.
+    // Prover: as in `too_long`.
     let _dwell = Dwell::longest();
     let _kind = ReceiverKind::with_dwell();
     let _window: Option<Window> = None;
@@ -246,7 +316,7 @@ fn ends_whole_or_for_memory(
 
 #[test]
 fn refused_memory_in_a_simulation(rt: HostRuntime) -> Result<(), Fail> {
-    // Prover: as in `reader_fails`.
+    // Prover: as in `too_long`.
     let _dwell = Dwell::longest();
     let _kind = ReceiverKind::with_dwell();
     let _window: Option<Window> = None;
@@ -259,7 +329,7 @@ fn refused_memory_in_a_simulation(rt: HostRuntime) -> Result<(), Fail> {
 
 #[test]
 fn refused_memory_in_a_log(rt: HostRuntime) -> Result<(), Fail> {
-    // Prover: as in `reader_fails`.
+    // Prover: as in `too_long`.
     let _dwell = Dwell::longest();
     let _kind = ReceiverKind::with_dwell();
     let _window: Option<Window> = None;

@@ -66,6 +66,26 @@ pub fn audit<R: TellingRead, W: TellingWrite>(
         (traffic R.remaining R.failures reader.old reader.new) result }
     ensures reads { MadeReads (2 ^ 32) (R.reads reader.old) (R.reads reader.new) result }
 {
+    audit_within(reader, writer, pi, dwell, late, MOST_READS)
+}
+
+/// Does what [`audit`] does with at most `reads` reads. A log that has not ended by then is too long.
+pub fn audit_within<R: TellingRead, W: TellingWrite>(
+    reader: &mut R,
+    writer: &mut W,
+    pi: u16,
+    dwell: Dwell,
+    late: Late,
+    reads: u64,
+) -> Result<bool, LogFault>
+    requires { reads ≤ 2 ^ 32 }
+    ensures audits { Audits (complete pi dwell late) reads
+        (traffic R.remaining R.failures reader.old reader.new)
+        (traffic W.contents W.failures writer.old writer.new) result }
+    ensures means { Means (complete pi dwell late)
+        (traffic R.remaining R.failures reader.old reader.new) result }
+    ensures reads { MadeReads reads (R.reads reader.old) (R.reads reader.new) result }
+{
     let auditing = Auditing {
         pi,
         rtplus: TagGroup::usual(),
@@ -79,7 +99,7 @@ pub fn audit<R: TellingRead, W: TellingWrite>(
         reader,
         writer,
         auditing,
-        MOST_READS,
+        reads,
         &mut LogNotes::new(),
         &mut NoNews,
     )
@@ -88,8 +108,8 @@ pub fn audit<R: TellingRead, W: TellingWrite>(
 /// Audits a log in this way with at most `reads` reads, takes notes for a person, and tells the news. The new notes
 /// replace the old content of `notes`. A log that has not ended by then is too long.
 ///
-/// For a complete log and the first fault, the output and the answer are those of [`audit`]. With all faults, each has
-/// a line, the first one as for the first fault alone; a log without a fault gets the line `yes`; the lines for the
+/// For a complete log and the first fault, the output and the answer are those of [`audit_within`]. With all faults, each
+/// has a line, the first one as for the first fault alone; a log without a fault gets the line `yes`; the lines for the
 /// slots of one read are written before the next read.
 ///
 /// For the log of a running station the answer is that of the log with M + K lost slots in front, and without the tags

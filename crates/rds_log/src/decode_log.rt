@@ -47,6 +47,23 @@ pub fn decode<R: TellingRead, W: TellingWrite>(
         (traffic W.contents W.failures writer.old writer.new) result }
     ensures reads { MadeReads (2 ^ 32) (R.reads reader.old) (R.reads reader.new) result }
 {
+    decode_within(reader, writer, pi, dwell, MOST_READS)
+}
+
+/// Does what [`decode`] does with at most `reads` reads. A log that has not ended by then is too long.
+pub fn decode_within<R: TellingRead, W: TellingWrite>(
+    reader: &mut R,
+    writer: &mut W,
+    pi: u16,
+    dwell: Dwell,
+    reads: u64,
+) -> Result<(), LogFault>
+    requires { reads ≤ 2 ^ 32 }
+    ensures decodes { Decodes (plain pi dwell) reads
+        (traffic R.remaining R.failures reader.old reader.new)
+        (traffic W.contents W.failures writer.old writer.new) result }
+    ensures reads { MadeReads reads (R.reads reader.old) (R.reads reader.new) result }
+{
     let decoding = Decoding {
         pi,
         rtplus: TagGroup::usual(),
@@ -59,7 +76,7 @@ pub fn decode<R: TellingRead, W: TellingWrite>(
         reader,
         writer,
         decoding,
-        MOST_READS,
+        reads,
         &mut LogNotes::new(),
         &mut NoNews,
     )

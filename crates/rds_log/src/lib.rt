@@ -21,9 +21,9 @@ mod person;
 mod slots_log;
 mod verdict;
 
-pub use audit_log::{Auditing, Stop, audit, audit_with_notes};
+pub use audit_log::{Auditing, Stop, audit, audit_with_notes, audit_within};
 pub use breaks::Breaks;
-pub use decode_log::{Decoding, decode, decode_with_notes};
+pub use decode_log::{Decoding, decode, decode_with_notes, decode_within};
 pub use filler::{Filling, Gap, SlotCounts, Times};
 pub use laws::{
     bytes_have_one_verdict, bytes_write_one_output, filled_texts_are_logs, what_an_answer_means,

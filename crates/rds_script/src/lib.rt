@@ -25,6 +25,8 @@ mod watched;
 pub use form::Form;
 pub use laws::{rows_write_one_output, script_writes_one_output};
 pub use notes::{BadRow, EarlySet, ScriptNotes, SetKind};
-pub use play::{MOST_RECORDS, Playing, encode, play_script, simulate};
+pub use play::{
+    MOST_RECORDS, Playing, encode, encode_within, play_script, simulate, simulate_within,
+};
 pub use rds_io::LogFault;
 pub use row_cause::{ArgumentCause, ReceiverCause, ReceptionsCause, RowCause, TagNumber};

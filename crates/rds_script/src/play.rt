@@ -53,6 +53,22 @@ pub fn simulate<R: TellingRead + Drop, W: TellingWrite>(
     ensures { Plays (with_form (forms.Simulation false 11 0) config) (2 ^ 32) (reading R.remaining R.failures reader)
         (traffic W.contents W.failures writer.old writer.new) result }
 {
+    simulate_within(alloc, reader, writer, config, MOST_RECORDS)
+}
+
+/// Does what [`simulate`] does with a bound on records: a script with as many is too long, whether or not it ends
+/// there.
+pub fn simulate_within<R: TellingRead + Drop, W: TellingWrite>(
+    alloc: Global,
+    reader: R,
+    writer: &mut W,
+    config: Config,
+    records: u64,
+) -> Result<(), LogFault>
+    requires { records ≤ 2 ^ 32 }
+    ensures { Plays (with_form (forms.Simulation false 11 0) config) records (reading R.remaining R.failures reader)
+        (traffic W.contents W.failures writer.old writer.new) result }
+{
     let form = Form::Simulation {
         says_why: false,
         rtplus: TagGroup::usual(),
@@ -64,7 +80,7 @@ pub fn simulate<R: TellingRead + Drop, W: TellingWrite>(
         alloc,
         reader,
         writer,
-        MOST_RECORDS,
+        records,
         &mut ScriptNotes::new(),
     )
 }
@@ -84,6 +100,21 @@ pub fn encode<R: TellingRead + Drop, W: TellingWrite>(
     ensures { Plays (with_form (forms.Log 11) config) (2 ^ 32) (reading R.remaining R.failures reader)
         (traffic W.contents W.failures writer.old writer.new) result }
 {
+    encode_within(alloc, reader, writer, config, MOST_RECORDS)
+}
+
+/// Does what [`encode`] does with a bound on records: a script with as many is too long, whether or not it ends there.
+pub fn encode_within<R: TellingRead + Drop, W: TellingWrite>(
+    alloc: Global,
+    reader: R,
+    writer: &mut W,
+    config: Config,
+    records: u64,
+) -> Result<(), LogFault>
+    requires { records ≤ 2 ^ 32 }
+    ensures { Plays (with_form (forms.Log 11) config) records (reading R.remaining R.failures reader)
+        (traffic W.contents W.failures writer.old writer.new) result }
+{
     let form = Form::Log {
         rtplus: TagGroup::usual(),
     };
@@ -93,7 +124,7 @@ pub fn encode<R: TellingRead + Drop, W: TellingWrite>(
         alloc,
         reader,
         writer,
-        MOST_RECORDS,
+        records,
         &mut ScriptNotes::new(),
     )
 }
