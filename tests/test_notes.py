@@ -111,6 +111,12 @@ ROWS = [
     (f"{SIM} --k 2", "-,,1,LG1", "RECEPTIONS: receiver 1: G1 asks for a slot before the first one"),
     (SIM, "-,,1,LW214048490D20", "RECEPTIONS: receiver 1: a wrong group; only receivers with --confirm may get one"),
 ]
+# a log of a text with padding that breaks a rule, and what is wrong with the segment
+PADDED_NOES = [
+    (b"C201 2142 4242 4242\nC201 2142 4243 4242\nC201 2141 4141 4141\nC201 2140 4141 4141\n",
+     "they leave no place for the carriage return"),
+    (b"C201 2140 4802 0D20\n", "byte 0x02 at place 1"),
+]
 # a log that breaks one rule at this slot and line, its M and K, and the sentence
 NOES = [
     (HI + HI.replace(b"4849", b"594F"), 1, 2, 4, 0,
@@ -390,6 +396,11 @@ class Warnings(ProgramCase):
                 others = len(heard) - heard.count(heard[0])
                 told += f" ({heard[0]:04X}: {heard.count(heard[0])}{f', others: {others}' if others else ''})"
             self.check(f"programmes of log {number}, seed {SEED}", noted("decode --pi ABCD", log)[2], note(told), log)
+
+    def test_a_no_of_a_text_with_padding_names_its_segment(self):
+        for log, cause in PADDED_NOES:
+            told = noted(f"{AUDIT} --m 16 --padded", log)[2]
+            self.check(cause, f"the segments fit no text: {cause}. To list" in told, True)
 
     def test_a_no_names_its_slot_its_line_and_the_rule(self):
         for log, slot, line, m, k, rule in NOES:

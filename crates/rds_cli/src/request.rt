@@ -1,5 +1,5 @@
 //! The request of the command line.
-ghost use Rattle.std.specs.Prelude.{◌≡◌, ◌-◌, ◌<◌, ◌⊎◌, ℕ, IfErr, IfNone, IfOk, IfSome, false, map, option_map, true};
+ghost use Rattle.std.specs.Prelude.{◌≡◌, ◌-◌, ◌<◌, ◌⊎◌, ℕ, IfErr, IfNone, IfOk, IfSome, None, false, map, option_map, true};
 ghost use Rattle.clap.specs.Words.{FailsBy, fault_of, found_of, kind_of, rows_of};
 ghost use Rattle.rds_cli.specs.Asks.{ReadAs, asked_by};
 ghost use Rattle.rds_cli.specs.CommandLine.{AreRefused, AskForHelp, IsPi, TakesWords, asked_in, asked_of};
@@ -121,6 +121,7 @@ pub fn read_words<'a>(alloc: Global, words: &'a [&'a str]) -> Result<Option<Requ
 /// Returns the request that was read, if there is one.
 pub fn request_in<'a>(read: &Result<Option<Request<'a>>, Error>) -> Option<Request<'a>>
     ensures as_read { IfOk read.now (λ o. option_map asked_by o ≡ option_map asked_by result) }
+    ensures refused { IfErr read.now (λ _. option_map asked_by result ≡ None) }
 {
     match read {
         // Prover: a value with a lifetime is not copied from behind a reference (PROVER.md, "Workarounds").

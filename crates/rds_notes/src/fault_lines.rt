@@ -284,5 +284,6 @@ fn push_cause(cause: Option<SegmentCause>, line: &mut Line) {
             line,
             ": a carriage return at place {place}, before a segment that was sent"
         ),
+        SegmentCause::NoReturn => write!(line, ": they leave no place for the carriage return"),
     };
 }

@@ -189,6 +189,7 @@ fn push_cause(cause: Option<SegmentCause>, line: &mut Line) {
             push_text("cause", b"early return", line);
             push_number("place", u64::from(place), line);
         }
+        Some(SegmentCause::NoReturn) => push_text("cause", b"no return", line),
     }
 }
 

@@ -62,7 +62,9 @@ impl NoNote {
             paused: pause_of(at.slot, account.paused, first),
             spacing: account.spacing,
             cause: match fault {
-                AuditFault::NotOneText => segment_cause(sent, account.least, account.most),
+                AuditFault::NotOneText => {
+                    segment_cause(sent, account.least, account.most, audit.is_padded != 0)
+                }
                 _ => None,
             },
             is_harmless: harmless.has(fault),
@@ -94,14 +96,14 @@ fn has_empty_tags(said: LogLine) -> bool {
     }
 }
 
-/// Returns what is wrong with the segment of a line, for a text of these lengths so far.
-fn segment_cause(said: LogLine, least: u8, most: u8) -> Option<SegmentCause> {
+/// Returns what is wrong with the segment of a line, for a text of these lengths so far, with padding or without.
+fn segment_cause(said: LogLine, least: u8, most: u8, is_padded: bool) -> Option<SegmentCause> {
     let LogLine::Slot(Some(group)) = said else {
         return None;
     };
     match Message::of_blocks(group) {
         Message::Text { address, bytes, .. } => {
-            SegmentCause::of_text(address.get(), bytes, least, most)
+            SegmentCause::of_text(address.get(), bytes, least, most, is_padded)
         }
         Message::Name { address, bytes, .. } => SegmentCause::of_name(address.get(), bytes),
         Message::Tags(_) | Message::Announce { .. } | Message::Other => None,

@@ -14,28 +14,34 @@ pub enum SegmentCause {
     PastReturn(u8),
     /// The carriage return at this place comes before a segment that was sent.
     EarlyReturn(u8),
+    /// The segments leave no place for the carriage return of a text with padding.
+    NoReturn,
 }
 
 impl SegmentCause {
-    /// Returns why no text has this segment, whose segments before it leave these lengths.
+    /// Returns why no text has this segment, whose segments before it leave these lengths. Of a text with padding, the
+    /// bytes behind the carriage return do not count.
     pub(crate) fn of_text(
         address: u8,
         bytes: [u8; 4],
         least: u8,
         most: u8,
+        is_padded: bool,
     ) -> Option<SegmentCause> {
         let mut end: Option<u8> = None;
         for (place, byte) in (address.saturating_mul(4)..).zip(bytes) {
-            if end.is_some() && byte != b' ' {
-                return Some(SegmentCause::AfterReturn(byte, place));
-            }
-            if byte == CARRIAGE_RETURN {
+            if end.is_some() {
+                if !is_padded && byte != b' ' {
+                    return Some(SegmentCause::AfterReturn(byte, place));
+                }
+            } else if byte == CARRIAGE_RETURN {
                 end = Some(place);
             } else if !is_text_byte(byte) {
                 return Some(SegmentCause::Byte(byte, place));
             }
         }
         match end {
+            _ if is_padded => Some(SegmentCause::NoReturn),
             Some(place) if place < least => Some(SegmentCause::EarlyReturn(place)),
             Some(_) | None => Some(SegmentCause::PastReturn(most)),
         }
