@@ -134,7 +134,8 @@ struct rdsrt_version { uint32_t abi, major, minor, patch; };
 /* Returns the version of the linked library. `abi` should be RDSRT_ABI. */
 struct rdsrt_version rdsrt_version(void);
 
-/* The codes that calls return. RDSRT_OK, RDSRT_CHANGED and RDSRT_SENT are not errors. */
+/* The codes that calls return. RDSRT_OK, RDSRT_CHANGED, RDSRT_SENT and the faults of an audit are no
+ * errors. */
 enum rdsrt_code {
     RDSRT_OK = 0,                  /* done; receiver, display: the view is the same; tick: nothing to send */
     RDSRT_CHANGED = 1,             /* receiver, display: the view may have changed */

@@ -56,10 +56,10 @@ RUN = [
      "yes 5\nrdsrt: judged in 5 slots, 3 without a group: 1 text, 0 names, 0 pairs of tags\n", None),
     ("./rdsrt audit --all --running --pi C201 station.log > faults.txt",
      {"station.log": "# time went back\n" + "".join(f"{it} {at}.0\n" for at, it in enumerate(FAULTY))}, {},
-     "rdsrt: 1 of 9 texts: Changed in slot 205 (line 207, 205.0); in 1 of them no receiver shows a mix: the texts with this "
+     "rdsrt: 1 of 9 texts: Changed in slot 205 (line 207, 205.0); in 1 of them no receiver shows a mix of texts: those with this "
      "flag agree, or differ in one segment\n"
      "rdsrt: 3 of 9 texts: EarlyFlag, first in slot 2 (line 4, 2.0), last in slot 408 (line 410, 408.0); in 3 of them no "
-     "receiver shows a mix: the texts with this flag agree, or differ in one segment\n"
+     "receiver shows a mix of texts: those with this flag agree, or differ in one segment\n"
      "rdsrt: in 146 of 409 slots no text segment had come for M = 128 slots: receivers with this M show no text then. Keep the "
      "text on their displays (rdsrt decode --keep)\n"
      "rdsrt: judged in 409 slots, 400 without a group: 9 texts, 0 names, 0 pairs of tags\n",

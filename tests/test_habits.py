@@ -74,7 +74,7 @@ HABITS = {
     "never flips the flag": [Play([*OLD, *NEW], ["no 3 Changed"], radio=MIXED)],
     "changes one segment of a text without a flip, for example a clock or a frequency": [
         Play([*sent("98.0 MHz"), *sent("98.5 MHz")], ["no 3 Changed"],
-             "in 1 of them no receiver shows a mix: the texts with this flag agree, or differ in one segment",
+             "in 1 of them no receiver shows a mix of texts: those with this flag agree, or differ in one segment",
              radio=["98.0 MHz", "98.5 MHz"])],
     "flips the flag some groups after the new text begins, or before": [
         Play([*OLD * 3, NEW[0], *sent("ROCK SONG", 1) * 3], ["no 9 Changed", "no 10 EarlyFlag"],
@@ -83,7 +83,7 @@ HABITS = {
              radio=["NEWS AT TEN", "none", "ROCK SONG"])],
     "flips the flag without a new text, for example every 10 s": [
         Play([*OLD, *sent("NEWS AT TEN", 1), *OLD], ["no 6 EarlyFlag"],
-             "in 1 of them no receiver shows a mix: the texts with this flag agree, or differ in one segment",
+             "in 1 of them no receiver shows a mix of texts: those with this flag agree, or differ in one segment",
              radio=["NEWS AT TEN", "none", "NEWS AT TEN", "none", "NEWS AT TEN"]),
         Play([*OLD, *sent("NEWS AT TEN", 1), *NEW], ["no 6 EarlyFlag"], lost=range(3, 6), radio=MIXED)],
     "changes its texts faster than every M + K slots": [

@@ -535,7 +535,7 @@ TWO_PLACES = b"".join(b"C201 21%s\n" % it for it in (b"40 4141 4141", b"41 4242 
                                                      b"40 4141 4141", b"41 4444 0D20"))
 # a command, its input, and words that its notes have, or (after a -) do not have: faults of notes that no other row would see
 SAYS = [
-    (f"{AUDIT} --all --m 8", TWO_PLACES, ["2 of 3 texts: Changed", "in 1 of them no receiver shows a mix"]),
+    (f"{AUDIT} --all --m 8", TWO_PLACES, ["2 of 3 texts: Changed", "in 1 of them no receiver shows a mix of texts"]),
     (f"{AUDIT} --quiet", HI.rstrip() + b" 1.0\n" + HI.rstrip() + b" 11.0\n", ["-span"]),
     (DECODE, HI + b"C201 2140 4849 ----\nC201 2140 ---- 0D20\n", ["2 of 3 groups of C201 had one lost block"]),
     # the newest group 3A counts
@@ -593,7 +593,7 @@ OBJECTS = [
     (f"{AUDIT} --m 8 --all", HI + b"C201 2150 594F 0D20\n" + HI + b"C201 2150 4849 0D20\n",
      [{"kind": "faults", "fault": "EarlyFlag", "of": "text", "count": 2, "harmless": 2, "judged": 4, "first_slot": 2,
        "first_line": 3, "last_slot": 3, "last_line": 4,
-       "because": "no receiver shows a mix: the texts with this flag agree, or differ in one segment"},
+       "because": "no receiver shows a mix of texts: those with this flag agree, or differ in one segment"},
       {"kind": "judged", "slots": 4, "empty": 0, "texts": 4, "names": 0, "tags": 0, "short": 0}]),
     (AUDIT, b"C201 2940 4849 0D20\n", [{"kind": "nothing", "short": 1}]),
     (DECODE, HI + b"C201 2940 4849 0D20\n", [{"kind": "short", "groups": 1}]),

@@ -160,7 +160,7 @@ class Chromium(Access, ChromiumCase):
         b.size(390, 844)
         b.ask("Emulation.setTouchEmulationEnabled", enabled=True)
         visit(b, URL)
-        self.check("the sentence", (of(b, "header p", "checkVisibility()"), "proved receiver" in text_of(b, "header p")), (True, True))
+        self.check("the sentence", (of(b, "header p", "checkVisibility()"), "proved not to" in text_of(b, "header p")), (True, True))
         first_examples(b)
         height = lambda query: b.run(f"document.querySelector('{query}').getBoundingClientRect().height")
         self.check("touch", b.run("matchMedia('(pointer: coarse)').matches"), True)

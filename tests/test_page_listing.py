@@ -23,7 +23,7 @@ def opened(b, log, **options):
     settle(b)
 
 
-HARMLESS = "1 may be harmless, since no receiver shows a mix: the texts with this flag agree, or differ in one segment."
+HARMLESS = "1 may be harmless, since no receiver shows a mix of texts: those with this flag agree, or differ in one segment."
 
 
 def timed(*groups):

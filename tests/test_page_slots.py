@@ -102,7 +102,7 @@ class Slots:
         self.check("the line of the no", f"Slot 12, line {line} of the file, {12 * SLOT:.2f}: a text reused" in said.replace("“", ""), True, said)
         listed = b.run("[...document.querySelectorAll('#log-kinds li')].map(it => it.textContent)")
         self.check("and of the list", listed, [f"EarlyFlag: 1 of 3 texts, in slot 12 (line {line}, {12 * SLOT:.2f}). 1 may be harmless, since no receiver "
-                                      "shows a mix: the texts with this flag agree, or differ in one segment."])
+                                      "shows a mix of texts: those with this flag agree, or differ in one segment."])
         self.check("what was left out", text_of(b, "#log-filled"), "3 lost slots added by the times; 1 group without a time left out")
 
     def test_logs_that_are_left_as_they_are(self):

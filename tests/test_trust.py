@@ -64,6 +64,19 @@ class Trust(Case):
         for law in (("rds_safety", "no_such_law", ""), ("rds_safety", "safe_by_plans", "no_such_clause")):
             self.check(f"{law} is not there", lacking(*law), [it for it in law if it.startswith("no_")])
 
+    def test_the_first_sentences_name_their_premise(self):
+        """The sentences that say "proved" or "never" where a stranger reads first."""
+        fronts = {
+            "page/index.html": r"<header>.*?<p>(.*?)</p>",
+            "python/pyproject.toml": r'^description = "(.*)"',
+            "python/src/rdsrt/__init__.py": r'\A"""(.*?)\n\n',
+        }
+        for page, pattern in fronts.items():
+            words = re.search(pattern, text_of(page), re.M | re.S)[1]
+            strong = [it for it in re.split(r"(?<=[.!?])\s+", " ".join(words.split())) if re.search(r"proved|never", it)]
+            self.check(f"{page}: one strong sentence", len(strong), 1)
+            self.check(f"{page}: '{strong}' has its premise", all("if the station keeps" in it for it in strong), True)
+
     def test_the_headline_names_the_options_that_it_needs(self):
         """Without the same --rtplus it is false: test_rtplus plays that."""
         page = text_of("docs/TRUST.md")

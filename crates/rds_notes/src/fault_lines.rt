@@ -81,7 +81,7 @@ pub(crate) fn push_reason(fault: AuditFault, line: &mut Line) {
         AuditFault::EarlyTag => write!(line, "both tags are empty, so no receiver shows them"),
         AuditFault::Changed | AuditFault::EarlyFlag => write!(
             line,
-            "no receiver shows a mix: the texts with this flag agree, or differ in one segment"
+            "no receiver shows a mix of texts: those with this flag agree, or differ in one segment"
         ),
         AuditFault::TagOutside => Ok(()),
     };

@@ -1,4 +1,5 @@
-"""RDS texts that are never a mix of two: receivers, encoders and audits, by the C library librdsrt.
+"""RDS texts that are never a mix of two, if the station keeps one rule: receivers, encoders and audits, by the C
+library librdsrt.
 
     from rdsrt import Receiver, read_log
 
