@@ -1,5 +1,6 @@
 """Help and refusals: the texts in tests/shown, and calls that end without reading."""
 import os
+import re
 import shutil
 import subprocess
 import tempfile
@@ -92,13 +93,12 @@ class Help(ProgramCase):
         """It shows its first 60 bytes. No character of it moves the cursor or turns the text, and standard error has the same."""
         moving, shown = "\x1b[31m1\n2\x7f\x9b\u202e½", r"\x1B[31m1\x0A2\x7F\xC2\x9B\xE2\x80\xAE½"
         number, station = "write a whole number of slots from 1 to 65535", ["--pi", "C201"]
-        tip = "\n\n  tip: to pass '{0}' as a value, use '-- {0}'"
         rows = [(["decode", *station, f"--m={moving}"], f"invalid value '{shown}' for '--m <N>': {number}\n"),
                 (["decode", *station, f"--m={'7' * 100_000}"], f"invalid value '{'7' * 60}' for '--m <N>': {number}\n"),
                 (["decode", *station, f"--m={'½' * 31}"], f"invalid value '{'½' * 30}' for '--m <N>': {number}\n"),
                 ([moving], f"unrecognized subcommand '{shown}'\n"),
                 (["x" * 10_000], f"unrecognized subcommand '{'x' * 60}'\n"),
-                (["decode", *station, f"--{moving}"], f"unexpected argument '--{shown}' found{tip.format('--' + shown)}\n"),
+                (["decode", *station, f"--{moving}"], f"unexpected argument '--{shown}' found\n"),
                 (["decode", *station, "one.log", moving], f"unexpected argument '{shown}' found\n"),
                 (["decode", *station, f"--quiet={moving}"],
                  f"unexpected value '{shown}' for '--quiet' found; no more were expected\n")]
@@ -117,6 +117,40 @@ class Help(ProgramCase):
                        (2, begin, False, True), text)
         _, text = ran(["audit", "--pi", "C201", "-x"], HI)
         self.check("another option", (text.startswith(b"error: unexpected argument '-x' found\n"), b"number" in text), (True, False))
+
+
+    def test_an_option_of_another_command_has_the_commands_that_take_it(self):
+        """By the help of each command. No tip of clap is left: one would pass the option as the name of a file."""
+        taken = {name: set(re.findall(r"^ +(-\w|--[\w-]+)|, (--[\w-]+)", text_of(f"tests/shown/short_help_of_{name}.txt"), re.M))
+                 for name in COMMANDS}
+        taken = {name: {one or two for one, two in found} for name, found in taken.items()}
+        more = {("--confirm", "audit"): "; for an audit give --k K + W - 1", ("--k", "decode"): "; a receiver needs M alone",
+                ("-k", "decode"): "; a receiver needs M alone"}
+        options, refused = set.union(*taken.values()), 0
+        for option in sorted(options):
+            having = {name for name in COMMANDS if option in taken[name]}
+            for name in sorted(set(COMMANDS) - having):
+                _, text = ran([name, "--pi", "C201", option, "8"], HI)
+                said, _, usage = text.decode().partition("\n\n")
+                begin, _, end = said.partition(" found: ")
+                names, _, last = end.partition(" ha")
+                told = set(COMMANDS) - {"slots"} if names == "each command but slots" else set(re.split(", | and ", names))
+                self.check(f"{name} {option}", (begin, told, last, usage.startswith("Usage: rdsrt ")),
+                           (f"error: unexpected argument '{option}'", having,
+                            f"{'ve' if len(having) in (2, 3) else 's'} {option}{more.get((option, name), '')}", True), text)
+                refused += 1
+        self.check_all("refused options", refused > 30, True)
+
+    def test_an_option_at_a_wrong_place_or_in_upper_case_has_a_cure(self):
+        before, case = ": write a command before its options, for example rdsrt decode --pi C201", ": options are in lower case, write"
+        for words, option, end in (
+                (["--pi", "C201"], "--pi", before), (["-k", "3", "decode"], "-k", before), ([*DECODE, "-M", "8"], "-M", f"{case} -m"),
+                (["decode", "--PI", "C201"], "--PI", f"{case} --pi"), (["encode", "--TP", "--pi", "C201"], "--TP", f"{case} --tp"),
+                ([*DECODE, "--k=3"], "--k", ": encode, sim and audit have --k; a receiver needs M alone"),
+                ([*DECODE, "-x"], "-x", ""), ([*DECODE, "--unknown"], "--unknown", "")):
+            status, text = ran(words, HI)
+            self.check(f"{words}", (status, text.decode().partition("\n\nUsage: ")[0]),
+                       (2, f"error: unexpected argument '{option}' found{end}"))
 
 
 class DecidedByArguments(ProgramCase):

@@ -18,8 +18,54 @@ const NUMBERS: [(&str, &str); 6] = [
     ("--pty <N>': ", "from 0 to 31"),
 ];
 
+/// The options that not every command has, behind the commands that have them.
+const OF_SOME: [(&str, &str); 14] = [
+    ("--all", "audit has"),
+    ("--confirm", "decode and sim have"),
+    ("--flag-alone", "sim and witness have"),
+    ("--grain", "slots has"),
+    ("--k", "encode, sim and audit have"),
+    ("-k", "encode, sim and audit have"),
+    ("--keep", "decode has"),
+    ("--lose", "witness has"),
+    ("--padded", "audit has"),
+    ("--pty", "encode and sim have"),
+    ("--rtplus", "each command but slots has"),
+    ("--running", "audit has"),
+    ("--tp", "encode and sim have"),
+    ("--why", "decode and sim have"),
+];
+
+/// The options that all commands have.
+const OF_ALL: [&str; 7] = [
+    "--help",
+    "--json-notes",
+    "--m",
+    "--pi",
+    "--quiet",
+    "-h",
+    "-m",
+];
+
+/// What a command has in place of an option: the option, the beginning of the command's usage, and the words.
+const IN_PLACE: [(&str, &str, &str); 3] = [
+    (
+        "--confirm",
+        "rdsrt audit ",
+        "; for an audit give --k K + W - 1",
+    ),
+    ("--k", "rdsrt decode ", "; a receiver needs M alone"),
+    ("-k", "rdsrt decode ", "; a receiver needs M alone"),
+];
+
 /// The beginning of the usage in a refusal.
 const USAGE: &str = "\n\nUsage: ";
+
+/// The beginning of the usage of arguments without a command.
+const NO_COMMAND: &str = "rdsrt <COMMAND>";
+
+/// The beginning of a tip of `clap` that nobody wants: a file whose name begins with a hyphen is rare.
+const TO_PASS: &str = "\n\n  tip: to pass '";
 
 /// The first bytes of a text for a terminal: `\xHH` is each byte of a character that moves the cursor or turns the text.
 #[derive(Clone, Copy)]
@@ -64,7 +110,8 @@ fn fmt_character<W: fmt::Write>(character: char, f: &mut fmt::Formatter<W>) -> f
 }
 
 /// The text of `clap` for arguments that are no request: help, or why they are refused. It says which numbers an option
-/// takes, and that none takes a number below 0. Of a refused argument it has the first bytes, for a terminal.
+/// takes, that none takes a number below 0, and which commands have an option. Of a refused argument it has the first
+/// bytes, for a terminal.
 #[derive(Clone, Copy)]
 pub struct Refusal<'a> {
     error: &'a Error,
@@ -140,6 +187,12 @@ fn fmt_reason<W: fmt::Write>(argument: &str, rest: &str, f: &mut fmt::Formatter<
     if argument.is_empty() {
         return fmt_lines(rest, f);
     }
+    if let Some((_, usage)) = rest.rsplit_once(USAGE)
+        && has_cure(argument, rest, usage)
+    {
+        fmt_cure(argument, usage, f)?;
+        return write!(f, "{USAGE}{usage}");
+    }
     for (place, part) in rest.split(argument).enumerate() {
         if place > 0 {
             write!(f, "{}", Shown::front(argument, MOST_SHOWN))?;
@@ -147,6 +200,70 @@ fn fmt_reason<W: fmt::Write>(argument: &str, rest: &str, f: &mut fmt::Formatter<
         fmt_lines(part, f)?;
     }
     Ok(())
+}
+
+/// Returns whether an option was refused for which there are words in place of a tip of `clap`, or no words.
+fn has_cure(argument: &str, rest: &str, usage: &str) -> bool {
+    if !argument.starts_with("-") {
+        return false;
+    }
+    rest.starts_with(TO_PASS)
+        || usage.starts_with(NO_COMMAND)
+        || commands_with(argument).is_some()
+        || lower_case(argument).is_some()
+}
+
+/// Writes what to type in place of a refused option, if there is something.
+fn fmt_cure<W: fmt::Write>(argument: &str, usage: &str, f: &mut fmt::Formatter<W>) -> fmt::Result {
+    if usage.starts_with(NO_COMMAND) {
+        return write!(
+            f,
+            ": write a command before its options, for example rdsrt decode --pi C201"
+        );
+    }
+    if let Some(commands) = commands_with(argument) {
+        let more = in_place(argument, usage);
+        return write!(f, ": {commands} {argument}{more}");
+    }
+    match lower_case(argument) {
+        Some(option) => write!(f, ": options are in lower case, write {option}"),
+        None => Ok(()),
+    }
+}
+
+/// Returns which commands have an option that another one has not.
+fn commands_with(argument: &str) -> Option<&'static str> {
+    for (option, commands) in OF_SOME {
+        if argument == option {
+            return Some(commands);
+        }
+    }
+    None
+}
+
+/// Returns what the command of this usage has in place of an option. Empty if it has nothing.
+fn in_place(argument: &str, usage: &str) -> &'static str {
+    for (option, command, words) in IN_PLACE {
+        if argument == option && usage.starts_with(command) {
+            return words;
+        }
+    }
+    ""
+}
+
+/// Returns the option that an argument is if its case does not count.
+fn lower_case(argument: &str) -> Option<&'static str> {
+    for option in OF_ALL {
+        if argument != option && argument.eq_ignore_ascii_case(option) {
+            return Some(option);
+        }
+    }
+    for (option, _) in OF_SOME {
+        if argument != option && argument.eq_ignore_ascii_case(option) {
+            return Some(option);
+        }
+    }
+    None
 }
 
 /// Returns whether an argument with a hyphen is a number, which was meant for the option before it.
