@@ -1,18 +1,21 @@
 """The notes of the program on standard error: each note, and the calls without one."""
+import bz2
 import collections
 import gzip
 import io
 import json
+import lzma
 import os
 import pty
 import random
 import re
 import shlex
 import subprocess
+import sys
 import zipfile
 
 from tests import plain_audit, worked_rows
-from tests.support import PROGRAM, PROMPT, SECONDS, ProgramCase, bytes_of
+from tests.support import PROGRAM, PROMPT, SECONDS, ProgramCase, bytes_of, path, temporary_folder
 
 SEED = 20261126
 HI = worked_rows.HI
@@ -27,9 +30,7 @@ PADDING = (". Here it may be harmless: receivers show nothing behind the carriag
 LINES = [
     ("C201 21400 4849 0D20", "block 2 has 5 characters, expected 4"),
     ("C2 2140 4849 0D20", "block 1 has 2 characters, expected 4"),
-    ("C201  2140 4849 0D20", "block 2 has 0 characters, expected 4"),
     (" C201 2140 4849 0D20", "block 1 has 0 characters, expected 4"),
-    ("12:00:00 C201 2140 4849 0D20", "block 1 has 8 characters, expected 4"),
     ("C201 2140 4849 0D20X", "block 4 has 5 characters, expected 4"),
     ("C2012140 48490D20", "block 1 has 8 characters, expected 4"),
     ("C201 2140 4849", "it ends after block 3"),
@@ -38,14 +39,47 @@ LINES = [
     ("C201 2140 48G9 0D20", "block 3 has a character that is not a hexadecimal digit"),
     ("C201 2140 4849 --2-", "block 4 has a character that is not a hexadecimal digit"),
     ("O201 2140 4849 0D20", "block 1 has a character that is not a hexadecimal digit"),
-    ("C201214048490D20", "it has no space"),
+    # a digit is missing, and a group follows from the second word on
+    ("C20 2140 4849 0D20 1234", "block 1 has 3 characters, expected 4"),
+    ("C201214048490D2", "it has no space"),
+    ("C201214048490D20E", "it has no space"),
+    ("R21404849", "it has no space"),
     ("hello", "it has no space"),
     ("text,HI,1,", "it looks like a row of a script, which encode and sim read"),
     ("-,,1,GG", "it looks like a row of a script, which encode and sim read"),
-    ('{"pi":"0xC201"}', "it looks like JSON"),
+    ("C201,2140,4849", "it looks like a row of a script, which encode and sim read"),
+    ("BZ", "it has no space"),
+]
+# a line that other programs and radios write, and what it looks like: programs/lines reads each of them
+FORMS = [
+    ('{"raw_data":"C201 2140 4849 0D20"}', "JSON"),
+    ("G:C201214048490D20", "a line G: of a radio"),
+    ("PC201\nR214048490D2000", "a line P or R of a radio"),
+    ("RC201214048490D2000", "a line P or R of a radio"),
+    ("C201214048490D20", "a group in one word"),
+    ("C201214048490D20 2024-06-01 07:58:12.08", "a group in one word"),
+    ("0xC201 0x2140 0x4849 0x0D20", "a group with 0x before each block"),
+    ("0XC201,0X2140,0X4849,0X0D20", "a group with 0x before each block"),
+    ("C201,2140,4849,0D20", "a group with commas between its blocks"),
+    ("C201, 2140, 4849, 0D20, 12.5", "a group with commas between its blocks"),
+    ("C201;2140;4849;0D20", "a group with semicolons between its blocks"),
+    ("C201 ; 2140 ; 4849 ; 0D20 ; 12.5", "a group with semicolons between its blocks"),
+    ("C201\t2140\t4849\t0D20", "a group with tabs between its blocks"),
+    ("C201  2140 4849 0D20", "a group with more than one space between its blocks"),
+    ("12:00:00 C201 2140 4849 0D20", "a group with its time before it"),
+    ("2024-06-01 07:58:12.08,C201,2140,4849,0D20", "a group with its time before it"),
+    ("12.5;C201;2140;4849;0D20", "a group with its time before it"),
+    ("[07:58:12.08] C201214048490D20", "a group with its time before it"),
+    ("1717228692080 C201 2140 4849 0D20", "a group with its time before it"),
 ]
 # the first bytes of a log that is no ASCII
-MARKS = [b"\xEF\xBB\xBF" + HI, ("\uFEFF" + HI.decode()).encode("utf-16-le"), ("\uFEFF" + HI.decode()).encode("utf-16-be")]
+MARKS = [(b"\xEF\xBB\xBF" + HI, "it begins with a byte order mark: save the log as plain ASCII"),
+         *((f"{mark}{HI.decode()}".encode(code), "it looks like UTF-16: rdsrt-lines reads it")
+           for mark in ("\uFEFF", "") for code in ("utf-16-le", "utf-16-be"))]
+# how a program compresses, and what the note on its file says
+PACKERS = [(gzip.compress, "gzip: gunzip"), (bz2.compress, "bzip2: bunzip2"), (lzma.compress, "xz: unxz")]
+# what to type without --pi
+NO_PI = "write --pi C201, with the PI code of your station in its place"
 QUOTE = 'a quotation mark (") is still open at the end of its line, so the lines after it are in the same field'
 ROWS = [
     (ENCODE, "text,HI,1", "expected 4 fields (COMMAND,ARGUMENT,FREE,RECEPTIONS), found 3"),
@@ -268,22 +302,10 @@ class Faults(ProgramCase):
                     got = noted(words, before + line.encode() + b"\n")[2]
                     self.check(f"note on {line!r} after {number - 1} lines: {words}", got,
                                note(f'fault line {number}: "{line}": {why}{LOOKS}'))
-        for log in MARKS:
+        for log, why in MARKS:
             for words in (DECODE, AUDIT, WITNESS, "slots"):
-                self.check(f"{words} of {log[:6]}", "it begins with a byte order mark" in noted(words, log)[2], True)
-        text = HI * 3
-        packed = io.BytesIO()
-        with zipfile.ZipFile(packed, "w", zipfile.ZIP_DEFLATED) as file:
-            file.writestr("station.log", text)
-        for log, why in ((gzip.compress(text, mtime=0), "it looks like a gzip file: unpack it first, with gunzip"),
-                         (packed.getvalue(), "it looks like a zip file: unpack it first, with unzip")):
-            for words in (DECODE, AUDIT, WITNESS, "slots"):
-                self.check(f"{words} of {log[:4]}", f": {why}{LOOKS}\n" in noted(words, log)[2], True)
-        self.check("two bytes of four", "it has no space" in noted(DECODE, b"PK\n")[2], True)
-        self.check("two bytes of three", "block 1 has 6 characters" in noted(DECODE, MARKS[0].replace(b"\xBF", b""))[2], True)
-        shown = noted(DECODE, b"C201\t2140\t4849\t0D20\r\n")[2]
-        self.check("note on tabs", shown,
-                   note(f'fault line 1: "C201\\x092140\\x094849\\x090D20\\x0D": it has no space{LOOKS}'))
+                self.check(f"{words} of {log[:6]}", f": {why}{LOOKS}\n" in noted(words, log)[2], True)
+        self.check("two bytes of three", "block 1 has 6 characters" in noted(DECODE, b"\xEF\xBB" + HI)[2], True)
         long = noted(DECODE, b"x" * 500 + b"\n")[2]
         self.check("note on a long line", long, note(f'fault line 1: "{"x" * 60}": it has no space{LOOKS}'))
         cut = subprocess.run(["bash", "-c",
@@ -291,6 +313,30 @@ class Faults(ProgramCase):
                              capture_output=True, timeout=SECONDS).stderr.decode()
         self.check("note on a line that comes in two reads", cut,
                    note(f'fault line 1: "C201 21400 4849 0D20": block 2 has 5 characters, expected 4{LOOKS}'))
+
+    def test_a_line_of_another_form_has_its_name_and_the_program_that_reads_it(self):
+        """programs/lines finds a group in each of these lines."""
+        for line, form in FORMS:
+            given = f"{line}\r\n".encode()
+            shown = line.split("\n")[0].replace("\t", "\\x09") + "\\x0D" * ("\n" not in line)
+            for words in (DECODE, AUDIT, WITNESS, "slots"):
+                got = noted(words, given)
+                self.check(f"note on {line!r}: {words}", (got[0], got[2]),
+                           (1, note(f'fault line 1: "{shown}": it looks like {form}: rdsrt-lines reads it{LOOKS}')))
+            done = subprocess.run([sys.executable, "-B", path("programs/lines")], input=given * 2, capture_output=True,
+                                  timeout=SECONDS)
+            self.check(f"programs/lines reads {line!r}", (done.returncode, done.stdout.count(b"C201 ")), (0, 2))
+
+    def test_a_compressed_log_has_the_name_of_the_program_that_unpacks_it(self):
+        packed = io.BytesIO()
+        with zipfile.ZipFile(packed, "w", zipfile.ZIP_DEFLATED) as file:
+            file.writestr("station.log", HI * 3)
+        for log, how in [(packed.getvalue(), "zip: unzip"), *((pack(HI * 3), how) for pack, how in PACKERS)]:
+            for words in (DECODE, AUDIT, WITNESS, "slots"):
+                got = noted(words, log)
+                self.check(f"{words} of {log[:4]}", (got[0], f": the file is compressed by {how} it first{LOOKS}\n" in got[2]),
+                           (1, True))
+        self.check("two bytes of four", "it has no space" in noted(DECODE, b"PK\n")[2], True)
 
     def test_a_malformed_row_has_its_number_and_its_cause(self):
         for words, row, why in ROWS:

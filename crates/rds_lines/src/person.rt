@@ -3,6 +3,7 @@
 
 pub(crate) mod heard;
 pub(crate) mod line_cause;
+pub(crate) mod line_form;
 pub(crate) mod line_time;
 pub(crate) mod log_times;
 pub(crate) mod news;

@@ -1,36 +1,36 @@
 //! The reasons why a line of a log is malformed, for a person. No contract speaks of them.
 
 use crate::log_line::{block_at, content_length, is_skipped};
+use crate::person::line_form::form_of;
 use memchr::memchr;
 use thiserror::Error;
 
 /// The number of blocks in a slot line.
 const COUNT: usize = 4;
 
-/// The byte order marks of UTF-8 and of UTF-16.
-const MARKS: [&[u8]; 3] = [b"\xEF\xBB\xBF", b"\xFF\xFE", b"\xFE\xFF"];
+/// The byte order mark of UTF-8.
+const MARK: &[u8] = b"\xEF\xBB\xBF";
 
-/// The first bytes of a gzip file.
-const GZIP: &[u8] = b"\x1F\x8B";
-
-/// The first bytes of a zip file.
-const ZIP: &[u8] = b"PK\x03\x04";
+/// The first bytes of a compressed file, the program that compresses so, and the one that undoes it.
+const PACKED: [(&[u8], &str, &str); 4] = [
+    (b"\x1F\x8B", "gzip", "gunzip"),
+    (b"PK\x03\x04", "zip", "unzip"),
+    (b"BZh", "bzip2", "bunzip2"),
+    (b"\xFD7zXZ\x00", "xz", "unxz"),
+];
 
 /// The first mistake in a line, from its left (this project's own rule). Blocks count from 1, lengths are in bytes.
 #[derive(Clone, Copy, Debug, PartialEq, Eq, Error)]
 pub enum LineCause {
-    /// The line begins with a brace, as in JSON.
-    #[error("it looks like JSON")]
-    Json,
-    /// The line begins with a byte order mark, of UTF-8 or UTF-16.
+    /// The line looks like one of another form.
+    #[error("it looks like {0}: rdsrt-lines reads it")]
+    Form(&'static str),
+    /// The line begins with the byte order mark of UTF-8.
     #[error("it begins with a byte order mark: save the log as plain ASCII")]
     Mark,
-    /// The line begins as a gzip file does.
-    #[error("it looks like a gzip file: unpack it first, with gunzip")]
-    Gzip,
-    /// The line begins as a zip file does.
-    #[error("it looks like a zip file: unpack it first, with unzip")]
-    Zip,
+    /// The line begins as a file does that this program compressed. The other program undoes it.
+    #[error("the file is compressed by {0}: {1} it first")]
+    Packed(&'static str, &'static str),
     /// A comma comes before any space, as in a row of a script.
     #[error("it looks like a row of a script, which encode and sim read")]
     Script,
@@ -55,25 +55,23 @@ pub(crate) fn cause_of(line: &[u8]) -> Option<LineCause> {
     if is_skipped(line, length) {
         return None;
     }
-    match form_cause(line) {
+    let content = &line[..length];
+    match form_cause(content) {
         Some(cause) => Some(cause),
-        None => blocks_cause(&line[..length]),
+        None => blocks_cause(content),
     }
 }
 
 /// Returns the cause if the line has another form than a slot line.
 fn form_cause(line: &[u8]) -> Option<LineCause> {
-    if line.starts_with(b"{") {
-        return Some(LineCause::Json);
-    }
-    if MARKS.iter().any(|mark| line.starts_with(mark)) {
+    if line.starts_with(MARK) {
         return Some(LineCause::Mark);
     }
-    if line.starts_with(GZIP) {
-        return Some(LineCause::Gzip);
+    if let Some(cause) = packed_cause(line) {
+        return Some(cause);
     }
-    if line.starts_with(ZIP) {
-        return Some(LineCause::Zip);
+    if let Some(form) = form_of(line) {
+        return Some(LineCause::Form(form));
     }
     match (memchr(b',', line), memchr(b' ', line)) {
         (Some(comma), Some(space)) if comma < space => Some(LineCause::Script),
@@ -81,6 +79,16 @@ fn form_cause(line: &[u8]) -> Option<LineCause> {
         (Some(_), None) => Some(LineCause::Script),
         (None, None) => Some(LineCause::NoSpace),
     }
+}
+
+/// Returns the cause if the line begins as a compressed file does.
+fn packed_cause(line: &[u8]) -> Option<LineCause> {
+    for (begin, packer, unpacker) in PACKED {
+        if line.starts_with(begin) {
+            return Some(LineCause::Packed(packer, unpacker));
+        }
+    }
+    None
 }
 
 /// Returns the mistake in the first malformed block. `None` if all four are good.
@@ -107,6 +115,6 @@ fn block_cause(content: &[u8], block: usize) -> Option<LineCause> {
 }
 
 /// Returns whether the bytes begin with four digits or four dashes.
-fn is_block(bytes: &[u8]) -> bool {
+pub(crate) fn is_block(bytes: &[u8]) -> bool {
     bytes.len() >= 4 && block_at(bytes, 0).is_some()
 }
