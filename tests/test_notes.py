@@ -81,6 +81,9 @@ PACKERS = [(gzip.compress, "gzip: gunzip"), (bz2.compress, "bzip2: bunzip2"), (l
 # what to type without --pi
 NO_PI = "write --pi C201, with the PI code of your station in its place"
 QUOTE = 'a quotation mark (") is still open at the end of its line, so the lines after it are in the same field'
+COMMA = ": put a text with a comma between quotation marks"
+SEMICOLONS = "it has semicolons between its fields: write commas"
+LOG_LINE = "it looks like a line of a log, which decode, audit, witness and slots read"
 ROWS = [
     (ENCODE, "text,HI,1", "expected 4 fields (COMMAND,ARGUMENT,FREE,RECEPTIONS), found 3"),
     (ENCODE, "TEXT,HI,1,", "COMMAND is not one of -, restart, text, name, tags (lower case)"),
@@ -106,7 +109,18 @@ ROWS = [
     (SIM, 'text,HI,1,"GG\r\n-,,1,GG', QUOTE),
     (ENCODE, 'text,"HI\nYO",1,', QUOTE),
     (ENCODE, 'text,"HI,1,', QUOTE),
-    (ENCODE, "sing,HI,2,X,", "expected 4 fields (COMMAND,ARGUMENT,FREE,RECEPTIONS), found 5"),
+    (ENCODE, "sing,HI,2,X,", f"expected 4 fields (COMMAND,ARGUMENT,FREE,RECEPTIONS), found 5{COMMA}"),
+    (SIM, "text,Gone, not forgotten, HI,1,G", f"expected 4 fields (COMMAND,ARGUMENT,FREE,RECEPTIONS), found 6{COMMA}"),
+    (ENCODE, "text;HI;1;", SEMICOLONS),
+    (SIM, '-;"";1;G', SEMICOLONS),
+    (ENCODE, "text;HI, YO;1;", SEMICOLONS),
+    (ENCODE, "text,HI;YO;1", "expected 4 fields (COMMAND,ARGUMENT,FREE,RECEPTIONS), found 2"),
+    (ENCODE, "te;xt,HI,1,", "COMMAND is not one of -, restart, text, name, tags (lower case)"),
+    (ENCODE, "C201 2140 4849 0D20", LOG_LINE),
+    (SIM, "c201 2140 ---- 0d20 @2024/06/01 07:58:12.08", LOG_LINE),
+    (ENCODE, "---- ---- ---- ----, lost", LOG_LINE),
+    (ENCODE, "C201 2140 4849 0D2", "expected 4 fields (COMMAND,ARGUMENT,FREE,RECEPTIONS), found 1"),
+    (ENCODE, "C201 2140 4849x0D20", "expected 4 fields (COMMAND,ARGUMENT,FREE,RECEPTIONS), found 1"),
     (ENCODE, "sing,HI,2,X", "COMMAND is not one of -, restart, text, name, tags (lower case)"),
     (ENCODE, "restart, ,2,X", "ARGUMENT: - and restart take none"),
     (ENCODE, f"text,{'x' * 64}€,2,X", "ARGUMENT: the text is too long by 1 (at most 64 characters)"),

@@ -7,9 +7,20 @@ use std::io::Write;
 /// Appends why a record is not a row.
 pub(crate) fn push_row_cause(cause: RowCause, line: &mut Line) {
     let _ = match cause {
-        RowCause::Fields(found) => write!(
+        RowCause::Fields(found) => {
+            let _ = write!(
+                line,
+                "expected 4 fields (COMMAND,ARGUMENT,FREE,RECEPTIONS), found {found}"
+            );
+            if found > 4 {
+                let _ = write!(line, ": put a text with a comma between quotation marks");
+            }
+            Ok(())
+        }
+        RowCause::Semicolons => write!(line, "it has semicolons between its fields: write commas"),
+        RowCause::LogLine => write!(
             line,
-            "expected 4 fields (COMMAND,ARGUMENT,FREE,RECEPTIONS), found {found}"
+            "it looks like a line of a log, which decode, audit, witness and slots read"
         ),
         RowCause::OpenQuote => write!(
             line,

@@ -5,7 +5,7 @@
 
 use crate::row_cause::{ArgumentCause, ReceiverCause, ReceptionsCause, RowCause, TagNumber};
 use csv::ByteRecord;
-use memchr::memrchr2;
+use memchr::{memrchr, memrchr2};
 use rds_assembly::{LONGEST_TEXT, NAME_LENGTH, TextRefused};
 use rds_charset::{BadCharacter, measure_text};
 use rds_fields::{Late, Which};
@@ -23,6 +23,9 @@ const TAG_NUMBERS: [(TagNumber, u8); 8] = [
     (TagNumber::LengthOfTwo, 31),
 ];
 
+/// The places of the spaces between the blocks of a line of a log.
+const SPACES: [usize; 3] = [4, 9, 14];
+
 /// Returns why a record is no row: an open quotation mark, if a field has a line end, or else this cause.
 // Cold path.
 #[inline(never)]
@@ -32,7 +35,35 @@ pub(crate) fn row_cause(row: &ByteRecord, cause: RowCause) -> RowCause {
             return RowCause::OpenQuote;
         }
     }
-    cause
+    match (cause, row.get(0)) {
+        (RowCause::Fields(_), Some(first)) => fields_cause(first, cause),
+        _ => cause,
+    }
+}
+
+/// Returns why a record with this first field does not have four: it is no row of a script, or else this cause.
+fn fields_cause(first: &[u8], cause: RowCause) -> RowCause {
+    if is_log_line(first) {
+        RowCause::LogLine
+    } else if memrchr(b';', first).is_some() {
+        RowCause::Semicolons
+    } else {
+        cause
+    }
+}
+
+/// Returns whether bytes look like a line of a log: words of four bytes with spaces between them, digits or dashes.
+fn is_log_line(bytes: &[u8]) -> bool {
+    let Some(blocks) = bytes.get(..19) else {
+        return false;
+    };
+    blocks.iter().enumerate().all(|(place, byte)| {
+        if SPACES.contains(&place) {
+            *byte == b' '
+        } else {
+            *byte == b'-' || byte.is_ascii_hexdigit()
+        }
+    })
 }
 
 /// Returns why an argument is no text: `why`, or what stops its reading.

@@ -10,6 +10,10 @@ use rds_fields::Which;
 pub enum RowCause {
     /// The record has this many fields, not four.
     Fields(usize),
+    /// The record has semicolons between its fields.
+    Semicolons,
+    /// The record is a line of a log.
+    LogLine,
     /// A quotation mark is open at the end of a line, so a field goes on in the next one. No row has such a field.
     OpenQuote,
     /// The first field is not a command.
