@@ -442,8 +442,19 @@ class Warnings(ProgramCase):
         self.check("note on another programme: decode", noted("decode --pi C202", flags), (0, b"", note(told)))
         self.check("note on another programme: witness", noted("witness --pi C202", flags)[2],
                    note(f"{told}: the search says nothing"))
-        self.check("note on an empty log", noted(AUDIT, b"")[2],
+        for words, says in ((AUDIT, ": the yes says nothing"), (WITNESS, ": the search says nothing"), (DECODE, ""),
+                            (f"{WITNESS} --lose 1", ": the answer says nothing"), ("slots", ""), (ENCODE, ""), (SIM, "")):
+            got = noted(words, b"")
+            self.check(f"note on an empty input: {words}", (got[0], got[2]), (0, note(f"the input is empty{says}")))
+            self.check(f"{words} --quiet", noted(f"{words} --quiet", b""), (*got[:2], ""))
+        self.check("note on a log of a comment", noted(AUDIT, b"# a note\n")[2],
                    note("no group of C201 in 0 slots: the yes says nothing"))
+        self.check("slots of a comment", noted("slots", b"# a note\n")[2], "")
+        # `slots` names the PI of the first line that it left out
+        for others, told in (([], ""), (["F201"], "1 line of another programme than C201 was left out (F201: 1)"),
+                             (["F201", "F202", "F201"], "3 lines of other programmes than C201 were left out (F201: 2, others: 1)")):
+            log = "".join(f"{pi} 2140 4849 0D20 {at}.0\n" for at, pi in enumerate(["C201", *others]))
+            self.check(f"slots with lines of {others}", noted("slots --pi C201", log.encode())[2], told and note(told))
         self.check("note on lost slots alone", noted(DECODE, LOST * 3)[2], note("no group of C201 in 3 slots"))
         self.check("a single group of the programme is enough", noted(DECODE, flags + b"F000 2140 4849 0D20\n")[2], "")
         draw = random.Random(SEED)
@@ -665,8 +676,10 @@ OBJECTS = [
      [{"kind": "no_group", "slots": 2, "first": "C201", "groups": 1, "others": 1}]),
     (DECODE, HI.rstrip() + b" 0.0\n" + HI.rstrip() + b" 9.0\n", [{"kind": "lack", "slots": 103, "lines": 2, "start": True}]),
     ("slots --pi C201", b"F201 2140 4849 0D20 1.0\n" + HI + HI.rstrip() + b" 9.0\n" + HI.rstrip() + b" 8.0\n",
-     [{"kind": "break", "why": "back", "line": 4}, {"kind": "untimed", "groups": 1}, {"kind": "others", "lines": 1},
+     [{"kind": "break", "why": "back", "line": 4}, {"kind": "untimed", "groups": 1},
+      {"kind": "others", "lines": 1, "first": "F201", "of_first": 1},
       {"kind": "breaks", "count": 1, "line": 4}]),
+    (ENCODE, b"", [{"kind": "empty"}]),
     ("slots --m 1", b"".join(HI.rstrip() + b" %d.0\n" % (at // 40) for at in range(200)) + HI.rstrip() + b" 7.0\n",
      [{"kind": "coarse"}]),
 ]

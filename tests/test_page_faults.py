@@ -118,7 +118,7 @@ class Faults:
         b = self.b
         noted, no_kind = "Nothing to auditThe program answers yes, with a note: ", "no 2A, 10A or 11A group of C201"
         rows = [
-            ("", "empty", f"{noted}no group of C201 in 0 slots: the yes says nothing."),
+            ("", "empty", f"{noted}the input is empty: the yes says nothing."),
             ("# a note\n", "empty", f"{noted}no group of C201 in 0 slots: the yes says nothing."),
             (f"{NOTHING}\n" * 3, "empty", f"{noted}no group of C201 in 3 slots: the yes says nothing."),
             ("C201 0000 0000 0000\n", "empty", f"{noted}{no_kind}: the yes says nothing."),

@@ -70,11 +70,34 @@ pub struct SlotCounts {
     pub untimed: u64,
     /// The number of lines with a time that were left out, since they are of another programme.
     pub others: u64,
+    /// The PI of the first of these lines.
+    pub first_other: Option<u16>,
+    /// The number of these lines with this PI.
+    pub of_first_other: u64,
     /// The longest gap.
     pub gap: Gap,
     /// The line of the newest group that did not fit a line without a group before it: by the time of that line, more
     /// slots were lost than by the time of the group.
     pub misfit: Option<u64>,
+}
+
+impl SlotCounts {
+    /// Counts a line of another programme, with these first bytes.
+    // Cold path.
+    #[inline(never)]
+    fn count_other(&mut self, start: &[u8]) {
+        self.others = self.others.saturating_add(1);
+        if start.len() < 4 {
+            return;
+        }
+        let own = word_at(start, 0);
+        if self.first_other.is_none() {
+            self.first_other = own;
+        }
+        if self.first_other == own {
+            self.of_first_other = self.of_first_other.saturating_add(1);
+        }
+    }
 }
 
 /// Takes the lines of a log with times for `slots`.
@@ -200,7 +223,7 @@ impl Filler {
             return Ok(());
         };
         if is_of_another(self.filling.pi, first) {
-            self.counts.others = self.counts.others.saturating_add(1);
+            self.counts.count_other(first);
             self.leave_out(is_group);
             return Ok(());
         }

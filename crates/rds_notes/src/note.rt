@@ -6,7 +6,7 @@ use rds_cli::{End, Request, Task};
 use rds_fields::{ANNOUNCEMENT_CODE, NAME_CODE, RADIOTEXT_CODE, RTPLUS_AID, RTPLUS_CODE, TagGroup};
 use rds_io::LogFault;
 use rds_lines::{BreakPlace, GroupCounts, Lack};
-use rds_log::{Breaks, FaultCount, Gap, LogNotes, NoNote, SlotNotes};
+use rds_log::{Breaks, FaultCount, Gap, LogNotes, NoNote, SlotCounts, SlotNotes};
 use rds_script::{EarlySet, ScriptNotes};
 use std::io::{self, ErrorKind};
 
@@ -81,6 +81,8 @@ pub(crate) struct Incomplete {
 #[derive(Clone, Copy)]
 pub(crate) struct OtherGroups<'a> {
     pub(crate) request: &'a Request<'a>,
+    /// Whether the input is empty.
+    pub(crate) is_empty: bool,
     pub(crate) slots: u64,
     /// The programme of the first group.
     pub(crate) first: Option<u16>,
@@ -140,6 +142,8 @@ pub(crate) struct Hidden {
 /// project's own rule).
 #[derive(Clone, Copy, Default)]
 pub(crate) enum Note<'a> {
+    /// The input of `slots`, or the script of `encode` and `sim`, is empty.
+    Empty,
     /// The first thing that was set too early.
     SetTooEarly(EarlySet),
     /// The rule that a log breaks first.
@@ -152,8 +156,8 @@ pub(crate) enum Note<'a> {
     WholeSeconds(Hidden),
     /// So many groups without a time were left out.
     Untimed(u64),
-    /// So many lines of other programmes than this one were left out.
-    OthersLeftOut(u64, &'a str),
+    /// Lines of other programmes than this one were left out.
+    OthersLeftOut(SlotCounts, &'a str),
     /// The times of a log vary by more than the grain.
     Coarse(CoarseTimes),
     /// The breaks in the times of a log: an audit of the output of `slots` says nothing.
@@ -198,6 +202,9 @@ pub(crate) type Notes<'a> = ArrayVec<Note<'a>, MOST_NOTES>;
 pub(crate) fn notes_of<'a>(run: &'a Run<'a>) -> Notes<'a> {
     let mut notes = Notes::new();
     if !run.request.quiet {
+        if is_empty(run) {
+            add(Note::Empty, &mut notes);
+        }
         note_script(run, &mut notes);
         note_faults(run, &mut notes);
         note_slots(run, &mut notes);
@@ -214,6 +221,16 @@ pub(crate) fn notes_of<'a>(run: &'a Run<'a>) -> Notes<'a> {
 /// Adds a note.
 fn add<'a>(note: Note<'a>, notes: &mut Notes<'a>) {
     let _ = notes.try_push(note);
+}
+
+/// Returns whether `slots` read no line, or `encode` or `sim` no row, and no fault ended it.
+fn is_empty(run: &Run<'_>) -> bool {
+    let had_nothing = match run.request.task {
+        Task::Encode(..) | Task::Simulate { .. } => !run.script.has_row,
+        Task::Slots(..) => run.slots.read.is_empty,
+        Task::Decode { .. } | Task::Witness | Task::Lose { .. } | Task::Audit { .. } => false,
+    };
+    had_nothing && matches!(run.end, End::Done)
 }
 
 /// Notes what was set too early.
@@ -257,7 +274,7 @@ fn note_slots<'a>(run: &'a Run<'a>, notes: &mut Notes<'a>) {
         add(Note::Untimed(counts.untimed), notes);
     }
     if counts.others > 0 {
-        add(Note::OthersLeftOut(counts.others, run.request.pi), notes);
+        add(Note::OthersLeftOut(counts, run.request.pi), notes);
     }
     if let Some(coarse) = coarse_times(run) {
         add(Note::Coarse(coarse), notes);
@@ -301,6 +318,7 @@ fn note_groups<'a>(run: &'a Run<'a>, notes: &mut Notes<'a>) {
         add(
             Note::NoGroup(OtherGroups {
                 request: run.request,
+                is_empty: run.log.input.read.is_empty,
                 slots: run.log.input.slots,
                 first: heard.first,
                 of_first: heard.of_first,

@@ -11,7 +11,7 @@ use rds_cli::{Request, Shown, Task};
 use rds_encoder::Refusal;
 use rds_io::LogFault;
 use rds_lines::{BadStart, BreakPlace, Lack, comment_of};
-use rds_log::Breaks;
+use rds_log::{Breaks, SlotCounts};
 use rds_script::{EarlySet, SetKind};
 use std::io::Write;
 
@@ -26,19 +26,23 @@ const FILE_ROOM: usize = 256;
 /// The beginning of a note.
 pub(crate) const BEGUN: &[u8] = b"rdsrt: ";
 
+/// The note on an input without a line.
+const EMPTY: &[u8] = b"the input is empty";
+
 /// The bytes of an unfinished note.
 pub(crate) type Line = ArrayVec<u8, ROOM>;
 
 /// Appends the sentence of a note.
 pub(crate) fn push_note(note: Note<'_>, line: &mut Line) {
     match note {
+        Note::Empty => push(EMPTY, line),
         Note::SetTooEarly(wait) => push_wait(wait, line),
         Note::BrokenRule(no, _) => push_no(no, line),
         Note::Found(of, judged, count) => push_found(of, judged, count, line),
         Note::Lacking(lack) => push_lack(lack, line),
         Note::WholeSeconds(hidden) => push_hidden(hidden, line),
         Note::Untimed(groups) => push_untimed(groups, line),
-        Note::OthersLeftOut(lines, pi) => push_others(lines, pi, line),
+        Note::OthersLeftOut(counts, pi) => push_others(counts, pi, line),
         Note::Coarse(coarse) => push_coarse(coarse, line),
         Note::Breaks(breaks) => push_breaks(breaks, line),
         Note::Break(at) => push_break(at, line),
@@ -275,17 +279,26 @@ fn push_wait(wait: EarlySet, line: &mut Line) {
 /// Appends that the log has no group of the wanted programme, and which programmes it has.
 fn push_no_group(other: OtherGroups<'_>, line: &mut Line) {
     let request = other.request;
-    let _ = write!(line, "no group of {} in ", request.pi);
-    push_count(other.slots, "slot", "slots", line);
-    let (count, others) = (other.of_first, other.others);
-    if let Some(first) = other.first {
-        let _ = write!(line, " ({first:04X}: {count}");
-        if others > 0 {
-            let _ = write!(line, ", others: {others}");
-        }
-        let _ = write!(line, ")");
+    if other.is_empty {
+        push(EMPTY, line);
+    } else {
+        let _ = write!(line, "no group of {} in ", request.pi);
+        push_count(other.slots, "slot", "slots", line);
+        push_programmes(other.first, other.of_first, other.others, line);
     }
     let _ = write!(line, "{}", nothing_said(request));
+}
+
+/// Appends the programme of the first group, the number of its groups, and that of the groups of other programmes.
+fn push_programmes(first: Option<u16>, count: u64, others: u64, line: &mut Line) {
+    let Some(first) = first else {
+        return;
+    };
+    let _ = write!(line, " ({first:04X}: {count}");
+    if others > 0 {
+        let _ = write!(line, ", others: {others}");
+    }
+    let _ = write!(line, ")");
 }
 
 /// Appends that a log, or its start, spans more slots by its times than it has lines.
@@ -312,8 +325,9 @@ fn push_break(at: BreakPlace, line: &mut Line) {
     );
 }
 
-/// Appends how many lines of other programmes were left out.
-fn push_others(others: u64, pi: &str, line: &mut Line) {
+/// Appends how many lines of other programmes were left out, and of which.
+fn push_others(counts: SlotCounts, pi: &str, line: &mut Line) {
+    let (others, of_first) = (counts.others, counts.of_first_other);
     push_count(
         others,
         "line of another programme than ",
@@ -322,6 +336,12 @@ fn push_others(others: u64, pi: &str, line: &mut Line) {
     );
     push(pi.as_bytes(), line);
     push_left_out(others, line);
+    push_programmes(
+        counts.first_other,
+        of_first,
+        others.saturating_sub(of_first),
+        line,
+    );
 }
 
 /// Appends how many breaks the times of a log have, and where the first one is.

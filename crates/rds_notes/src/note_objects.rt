@@ -16,6 +16,7 @@ use std::io::Write;
 /// Appends the object of a note with this sentence and this advice. Without an advice it is empty.
 pub(crate) fn push_object(note: Note<'_>, sentence: &[u8], advice: &[u8], line: &mut Line) {
     match note {
+        Note::Empty => push_kind("empty", line),
         Note::SetTooEarly(wait) => push_wait(wait, line),
         Note::BrokenRule(no, _) => push_no(no, line),
         Note::Found(of, judged, count) => push_found(of, judged, count, line),
@@ -31,7 +32,11 @@ pub(crate) fn push_object(note: Note<'_>, sentence: &[u8], advice: &[u8], line: 
             push_number("hides", hidden.hides, line);
         }
         Note::Untimed(groups) => push_one("untimed", "groups", groups, line),
-        Note::OthersLeftOut(lines, _) => push_one("others", "lines", lines, line),
+        Note::OthersLeftOut(counts, _) => {
+            push_one("others", "lines", counts.others, line);
+            push_first(counts.first_other, line);
+            push_number("of_first", counts.of_first_other, line);
+        }
         Note::Coarse(coarse) => {
             push_kind("coarse", line);
             push_number("slots", coarse.slots, line);
@@ -55,9 +60,7 @@ pub(crate) fn push_object(note: Note<'_>, sentence: &[u8], advice: &[u8], line: 
         Note::NoGroup(other) => {
             push_kind("no_group", line);
             push_number("slots", other.slots, line);
-            if let Some(first) = other.first {
-                let _ = write!(line, ",\"first\":\"{first:04X}\"");
-            }
+            push_first(other.first, line);
             push_number("groups", other.of_first, line);
             push_number("others", other.others, line);
         }
@@ -118,6 +121,13 @@ pub(crate) fn push_object(note: Note<'_>, sentence: &[u8], advice: &[u8], line: 
         push_text("advice", advice, line);
     }
     push(b"}", line);
+}
+
+/// Appends the PI of the first group, if there is one.
+fn push_first(first: Option<u16>, line: &mut Line) {
+    if let Some(first) = first {
+        let _ = write!(line, ",\"first\":\"{first:04X}\"");
+    }
 }
 
 /// Appends the facts of something that was set too early.

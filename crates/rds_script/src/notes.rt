@@ -7,6 +7,8 @@ use rds_world::{Command, Reply};
 /// Notes on a script that was played. The output is the same with notes and without (this project's own rule).
 #[derive(Clone, Copy)]
 pub struct ScriptNotes {
+    /// Whether the script had a row.
+    pub has_row: bool,
     /// The malformed record, if the script stopped at one.
     pub bad: Option<BadRow>,
     /// The first text, name or pair of tags that came too early, if one did.
@@ -17,6 +19,7 @@ impl ScriptNotes {
     /// Makes notes that are empty.
     pub fn new() -> ScriptNotes {
         ScriptNotes {
+            has_row: false,
             bad: None,
             wait: None,
         }

@@ -162,6 +162,7 @@ pub fn play_script<R: TellingRead + Drop, W: TellingWrite>(
         &mut bad,
     );
     *notes = ScriptNotes {
+        has_row: player.slot > 0,
         bad,
         wait: player.wait,
     };

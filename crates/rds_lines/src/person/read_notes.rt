@@ -20,6 +20,8 @@ pub struct BadStart {
 /// Notes on the reading of a log (this project's own rule).
 #[derive(Drop)]
 pub struct ReadNotes {
+    /// Whether no line was read.
+    pub is_empty: bool,
     /// The malformed line at which the run stopped.
     pub bad: Option<BadStart>,
     /// The times of the log.
@@ -30,6 +32,7 @@ impl ReadNotes {
     /// Returns the notes before the first line.
     pub fn new() -> ReadNotes {
         ReadNotes {
+            is_empty: true,
             bad: None,
             times: LogTimes::new(),
         }
@@ -57,6 +60,7 @@ impl ReadNotes {
     // Cold path.
     #[inline(never)]
     fn look<N: News>(&mut self, said: LogLine, source: &Source, is_last: bool, news: &mut N) {
+        self.is_empty = false;
         match said {
             LogLine::Slot(_) => self.times.take(source.start(), source.lines()),
             LogLine::Skip => self.times.skip(source.start()),
