@@ -713,6 +713,45 @@ class Objects(ProgramCase):
         self.check("the text", got, 'fault line 1: ""\\\\x01\\xFF": it has no space' + LOOKS)
 
 
+class WithoutPi(ProgramCase):
+    """Arguments without --pi: the note behind the refusal says what to type."""
+
+    def refused(self, words, **more):
+        """Returns the note behind the refusal, which goes to standard output too."""
+        status, shown, told = noted(words, HI, **more)
+        self.check(f"{words}: status, and a refusal on both", (status, told.startswith(shown.decode())), (2, True), told)
+        return told[len(shown.decode()):]
+
+    def test_it_names_the_pi_that_was_typed(self):
+        for words, typed in (("decode -pi D201 x.log", "D201"), ("audit -pi=d201", "d201"), ("witness -piD201 --m 8", "D201"),
+                             ("decode -p D201", "D201"), ("audit --PI D201 x.log", "D201"), ("decode D201 x.log", "D201"),
+                             ("decode D201", "D201"), ("encode --m 8 D201 x.csv", "D201"), ("sim -pi D201", "D201"),
+                             ("slots D201 x.log", "D201"), ("decode -m 1000 D201 x.log", "D201"), ("decode x.log D201", "D201")):
+            self.check(words, self.refused(words), note(f"write --pi {typed}"))
+
+    def test_it_names_the_pi_of_the_log(self):
+        folder = temporary_folder(self)
+        for name, log, told in (
+                ("one.log", HI * 3 + LOST, "C201: the log has 3 groups of this PI"),
+                ("two.log", HI * 2 + b"D201 2140 4849 0D20\n", "C201: the log has 2 groups of this PI and 1 of others"),
+                ("few.log", HI + b"D201 2140 4849 0D20\n" * 2, "C201: the log has 1 group of this PI and 2 of others. "
+                 "rdsrt-lines names the PI that most groups have"),
+                ("bad.log", b"bad\n", NO_PI[11:]), ("none.log", LOST, NO_PI[11:]), ("empty.log", b"", NO_PI[11:])):
+            with open(os.path.join(folder, name), "wb") as file:
+                file.write(log)
+            for words in ("decode", "audit --running", "witness --m 1000", "witness --lose 3"):
+                self.check(f"{words} {name}", self.refused(f"{words} {name}", cwd=folder), note(f"write --pi {told}"))
+        os.mkfifo(os.path.join(folder, "pipe"))
+        for words in ("decode", "decode -", "decode missing.log", "encode one.log", "sim two.log", "decode pipe", "decode .",
+                      "decode /dev/null"):
+            self.check(words, self.refused(words, cwd=folder), note(NO_PI))
+
+    def test_other_refusals_have_no_such_note(self):
+        for words in ("", "sing", "decode --pi", "decode --pi=C201 -x", "decode --pi C201 x.log D201", "audit --confirm 5",
+                      "decode --pi C201 -pi D201", "slots --m 0 C201"):
+            self.check(words, self.refused(words), "")
+
+
 class WhereNotesGo(ProgramCase):
     def test_a_terminal_gets_a_hint_and_each_refusal_once(self):
         for words, what in ((DECODE, "log"), (AUDIT, "log"), (WITNESS, "log"), (ENCODE, "script"), (SIM, "script")):
@@ -731,16 +770,16 @@ class WhereNotesGo(ProgramCase):
                 first = told.split("\n")[0]
                 wanted = "" if quiet else f"rdsrt: reading a {what} from the terminal; Ctrl-D ends it"
                 self.check(f"note on a terminal: {words}{quiet}", first, wanted)
-        for words in ("", "sing", "decode", "decode --pi C201 --m 0"):
+        for words, more in (("", ""), ("sing", ""), ("decode", note(NO_PI)), ("decode --pi C201 --m 0", "")):
             got = noted(words, b"")
-            self.check(f"a refusal goes to both: {words}", (got[0], got[2]), (2, got[1].decode()))
+            self.check(f"a refusal goes to both: {words}", (got[0], got[2]), (2, got[1].decode() + more))
             ours, theirs = pty.openpty()
             done = subprocess.run([PROGRAM, *words.split()], stdin=subprocess.DEVNULL, stdout=theirs,
                                   stderr=subprocess.PIPE,
                                   timeout=SECONDS)
             os.close(theirs)
             os.close(ours)
-            self.check(f"a refusal on a terminal goes there alone: {words}", done.stderr, b"")
+            self.check(f"a refusal on a terminal goes there alone: {words}", done.stderr, more.encode())
         self.check("help goes to standard output alone", noted("--help", b"")[2], "")
 
     def test_quiet_drops_warnings_and_standard_output_never_changes(self):

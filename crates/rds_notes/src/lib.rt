@@ -8,12 +8,14 @@ mod fault_lines;
 mod note;
 mod note_lines;
 mod note_objects;
+mod pi_line;
 mod printing;
 mod row_lines;
 mod screen;
 mod spans;
 
 pub use note::Run;
+pub use pi_line::{MissingPi, print_pi};
 pub use printing::{print_no_group, print_notes, print_refusal};
 pub use screen::Screen;
 

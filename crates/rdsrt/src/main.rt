@@ -12,10 +12,11 @@
 use clap::Error;
 use rds_cli::{Request, Task, identification_of, read_words, request_in};
 use rds_io::{Told, put};
-use rds_lines::NoNews;
-use rds_notes::{Run, Screen, print_no_group, print_notes, print_refusal};
+use rds_lines::{Heard, NoNews};
+use rds_notes::{MissingPi, Run, Screen, print_no_group, print_notes, print_pi, print_refusal};
 use rds_program::{Report, input_of, no_words, run_read, texts, words_of};
-use std::io::{ErrorKind, IsTerminal, Stderr};
+use std::fs;
+use std::io::{self, ErrorKind, IsTerminal, Stderr};
 use std::process::ExitCode;
 
 fn main(rt: HostRuntime) -> ExitCode {
@@ -78,22 +79,86 @@ fn run_request<'a>(
     status
 }
 
-/// Prints help, or why the arguments are refused.
+/// The place of the first argument behind the command.
+const BEHIND_COMMAND: usize = 2;
+
+/// Prints help, or why the arguments are refused, and what to type if they lack the PI.
 fn refuse(rt: &HostRuntime, words: &[&str], read: Result<Option<Request<'_>>, Error>) -> u8 {
+    let missing = match &read {
+        Ok(_) => None,
+        Err(error) => MissingPi::of(error, &*words),
+    };
     match &read {
         Ok(_) => print_no_group(words, &mut notes(rt)),
         // A terminal shows the reason already: it is standard output.
         Err(_) if rt.stdout().is_terminal() => {}
         Err(error) => print_refusal(error, &mut notes(rt)),
     }
-    run_read(
+    let status = run_read(
         rt.alloc(),
         read,
         &mut Told::new(rt.stdin()),
         &mut Told::new(rt.stdout()),
         &mut Report::new(),
         &mut NoNews,
-    )
+    );
+    if let Some(missing) = missing {
+        let log = if missing.is_unknown() {
+            heard_in(rt, words)
+        } else {
+            None
+        };
+        print_pi(missing, log, &mut notes(rt));
+    }
+    status
+}
+
+/// Returns the programmes of the log that these arguments name: they lack the PI alone. `None` if they name none, and for a
+/// script, a pipe or a device.
+fn heard_in(rt: &HostRuntime, words: &[&str]) -> Option<Heard> {
+    let mut whole = Vec::new(rt.alloc());
+    for (place, &word) in words.iter().enumerate() {
+        if place == BEHIND_COMMAND {
+            whole.push("--pi").ok()?;
+            whole.push("0000").ok()?;
+        }
+        whole.push(word).ok()?;
+    }
+    let read = read_words(rt.alloc(), whole.as_slice());
+    let request = request_in(&read);
+    match &request {
+        Some(request) => heard_by(rt, read, request),
+        None => None,
+    }
+}
+
+/// Returns the programmes of the log of a request. `None` if it has none, and for a pipe or a device.
+fn heard_by<'a>(
+    rt: &HostRuntime,
+    read: Result<Option<Request<'_>>, Error>,
+    request: &'a Request<'a>,
+) -> Option<Heard> {
+    let file = request.file?;
+    if !reads_log(request.task) || !fs::metadata(rt, file).ok()?.is_file() {
+        return None;
+    }
+    let mut input = Told::new(input_of(rt, rt.stdin(), Some(file)));
+    let mut output = Told::new(io::sink());
+    let mut report = Report::new();
+    let _ = run_read(
+        rt.alloc(),
+        read,
+        &mut input,
+        &mut output,
+        &mut report,
+        &mut NoNews,
+    );
+    Some(report.log.input.heard)
+}
+
+/// Returns whether a task reads a log.
+fn reads_log(task: Task) -> bool {
+    !matches!(task, Task::Encode(..) | Task::Simulate { .. })
 }
 
 /// Prints a line for a person who types the input.
