@@ -1,4 +1,4 @@
-//! What to type if the arguments have no `--pi`.
+//! The words to type if the arguments have no `--pi`.
 
 use crate::note_lines::{Line, begun, push, push_count};
 use clap::Error;
@@ -14,7 +14,7 @@ const FIRST: usize = 2;
 /// The PI of no log.
 const EXAMPLE: &[u8] = b"C201, with the PI code of your station in its place";
 
-/// How people write `--pi` who write it wrong.
+/// The usual wrong forms of `--pi`.
 const MEANT: [&str; 3] = ["-p", "-pi", "--PI"];
 
 /// Arguments that were refused for want of `--pi` (this project's own rule).
@@ -25,8 +25,8 @@ pub struct MissingPi<'a> {
 }
 
 impl<'a> MissingPi<'a> {
-    /// Returns what these refused arguments have of the PI, the program's own name first. `None` if another one of them
-    /// is the reason, or if they have `--pi`.
+    /// Looks for the PI in these refused arguments, the program's own name first. `None` if another one of them is the
+    /// reason, or if they have `--pi`.
     pub fn of(error: &Error, words: &'a [&'a str]) -> Option<MissingPi<'a>> {
         let typed = typed_pi(words);
         let lacks = match error.kind() {
@@ -80,8 +80,8 @@ fn pi_in<'a>(word: &'a str, last: &str) -> Option<&'a str> {
     }
 }
 
-/// Prints what to type in place of these arguments: the PI that they have, or that of the first group of their log, or an
-/// example.
+/// Prints the words to type in place of these arguments: the PI that they have, that of the first group of their log, or
+/// an example.
 pub fn print_pi<N: TellingWrite>(missing: MissingPi<'_>, log: Option<Heard>, screen: &mut N) {
     let mut line = begun();
     push(b"write --pi ", &mut line);

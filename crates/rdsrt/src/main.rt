@@ -113,8 +113,8 @@ fn refuse(rt: &HostRuntime, words: &[&str], read: Result<Option<Request<'_>>, Er
     status
 }
 
-/// Returns the programmes of the log that these arguments name: they lack the PI alone. `None` if they name none, and for a
-/// script, a pipe or a device.
+/// Returns the programmes of the log that these arguments name: they lack the PI alone. `None` if they name none, and for
+/// a script, a pipe or a device.
 fn heard_in(rt: &HostRuntime, words: &[&str]) -> Option<Heard> {
     let mut whole = Vec::new(rt.alloc());
     for (place, &word) in words.iter().enumerate() {
