@@ -26,7 +26,7 @@ const OF_SOME: [(&str, &str); 14] = [
     ("--grain", "slots has"),
     ("--k", "encode, sim and audit have"),
     ("-k", "encode, sim and audit have"),
-    ("--keep", "decode has"),
+    ("--keep", "decode and sim have"),
     ("--lose", "witness has"),
     ("--padded", "audit has"),
     ("--pty", "encode and sim have"),
