@@ -25,9 +25,9 @@ pub all_lead : (text : List ℕ) (k : ℕ) → k < leading_digits text → IsTru
 all_lead [] k h = absurd (omega (arith, h))
 all_lead (b ∷ rest) k h = grind (arith, all_lead rest)
 
--- a number of at most twelve digits
-pub twelve : (n place : ℕ) → n < 10 ^ place → place ≤ 12 → n < 1000000000000
-twelve n place small few = grind (arith, pow-le-pow_right)
+-- a number of at most thirteen digits
+pub thirteen : (n place : ℕ) → n < 10 ^ place → place ≤ 13 → n < 10000000000000
+thirteen n place small few = grind (arith, pow-le-pow_right)
 
 -- ---- the digits that a text begins with
 

@@ -4,7 +4,7 @@ use Rattle.std.proofs.Common.{refl, sym, ap, arith, cond, length, map, nat_eq, n
 use Rattle.std.proofs.lemmas.Simd.{mask_l-mod, tops_compared}
 use Rattle.std.proofs.lemmas.List.{get_or-drop, get_or-take, length-drop, length-take-le}
 use lib.Lanes.{mask_l, top, zip2}
-use Rattle.rds_arrivals.specs.Stamps.{date_at, digit_at, has, minute_at, two_at}
+use Rattle.rds_arrivals.specs.Stamps.{date_at, day_minute_at, digit_at, has, minute_at, two_at}
 
 -- the sixteen bytes at a place
 abbrev pub sixteen : List ℕ → ℕ → List ℕ
@@ -49,16 +49,23 @@ date_same t p long =
       has_same t p (p + 7) 7 45 refl (omega arith) long,
     ) refl
 
+day_minute_same : (t : List ℕ) (p i k : ℕ) → i ≡ p + k → k + 4 < 16 → p + 16 ≤ length t
+    → day_minute_at t i ≡ day_minute_at (sixteen t p) k
+day_minute_same t p i k at h long =
+    rw (
+      two_same t p i k at (omega (arith, h)) long,
+      two_same t p (i + 3) (k + 3) (omega (arith, at)) (omega (arith, h)) long,
+      has_same t p (i + 2) (k + 2) 58 (omega (arith, at)) (omega (arith, h)) long,
+    ) refl
+
 -- the minute of a text is that of its sixteen bytes at the place
 pub minute_same : (t : List ℕ) (p : ℕ) → p + 16 ≤ length t → minute_at t p ≡ minute_at (sixteen t p) 0
 minute_same t p long =
     rw (
       date_same t p long,
-      two_same t p (p + 11) 11 refl (omega arith) long,
-      two_same t p (p + 14) 14 refl (omega arith) long,
+      day_minute_same t p (p + 11) 11 refl (omega arith) long,
       has_same t p (p + 10) 10 32 refl (omega arith) long,
       has_same t p (p + 10) 10 84 refl (omega arith) long,
-      has_same t p (p + 13) 13 58 refl (omega arith) long,
     ) refl
 
 -- ---- sixteen bytes compared at once, each in a lane

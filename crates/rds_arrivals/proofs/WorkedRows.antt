@@ -113,3 +113,150 @@ no_hour_24 = refl
 word : stamp_in (codes "12.5s") ≡ None
 unfolding stamp_in
 word = refl
+
+-- a comma begins the fraction of a date's time, as in the logs of Python
+python_log : stamp_in (codes "2024-02-29 00:00:01,250 INFO") ≡ Some (record { time = 63876384001250000; end = 23 })
+unfolding stamp_in
+python_log = refl
+
+semicolon : stamp_in (codes "2024-02-29 00:00:01;250") ≡ None
+unfolding stamp_in
+semicolon = refl
+
+-- a mark without digits is a fraction of 0
+no_digits_yet : stamp_in (codes "2024-02-29 00:00:01,") ≡ Some (record { time = 63876384001000000; end = 20 })
+unfolding stamp_in
+no_digits_yet = refl
+
+-- 07:58:12 is 28,692 s after midnight
+day : stamp_in (codes "07:58:12.08 57") ≡ Some (record { time = 28692080000; end = 11 })
+unfolding stamp_in
+day = refl
+
+day_comma : stamp_in (codes "07:58:12,080") ≡ Some (record { time = 28692080000; end = 12 })
+unfolding stamp_in
+day_comma = refl
+
+day_whole : stamp_in (codes "07:58:12") ≡ Some (record { time = 28692000000; end = 8 })
+unfolding stamp_in
+day_whole = refl
+
+day_leap : stamp_in (codes "23:59:60") ≡ Some (record { time = 86400000000; end = 8 })
+unfolding stamp_in
+day_leap = refl
+
+day_end : stamp_in (codes "24:00:00") ≡ None
+unfolding stamp_in
+day_end = refl
+
+day_minute_60 : stamp_in (codes "07:60:00") ≡ None
+unfolding stamp_in
+day_minute_60 = refl
+
+day_second_61 : stamp_in (codes "07:58:61") ≡ None
+unfolding stamp_in
+day_second_61 = refl
+
+day_short : stamp_in (codes "07:58") ≡ None
+unfolding stamp_in
+day_short = refl
+
+day_one_digit : stamp_in (codes "7:58:12") ≡ None
+unfolding stamp_in
+day_one_digit = refl
+
+day_zone : stamp_in (codes "07:58:12Z") ≡ None
+unfolding stamp_in
+day_zone = refl
+
+day_frames : stamp_in (codes "07:58:12:08") ≡ None
+unfolding stamp_in
+day_frames = refl
+
+day_sign : stamp_in (codes "@07:58:12") ≡ None
+unfolding stamp_in
+day_sign = refl
+
+-- seconds take no comma: the next column may begin there
+seconds_comma : stamp_in (codes "12,5") ≡ None
+unfolding stamp_in
+seconds_comma = refl
+
+-- 13 digits are milliseconds, 12 are seconds, and 14 are no time
+milliseconds : stamp_in (codes "1717228692080") ≡ Some (record { time = 1717228692080000; end = 13 })
+unfolding stamp_in
+milliseconds = refl
+
+twelve_digits : stamp_in (codes "171722869208") ≡ Some (record { time = 171722869208000000; end = 12 })
+unfolding stamp_in
+twelve_digits = refl
+
+fourteen_digits : stamp_in (codes "17172286920800") ≡ None
+unfolding stamp_in
+fourteen_digits = refl
+
+milliseconds_point : stamp_in (codes "1717228692080.5") ≡ None
+unfolding stamp_in
+milliseconds_point = refl
+
+-- spaces and tabs before a time, and a tab after it
+blanks : stamp_in (codes "  \t12.5") ≡ Some (record { time = 12500000; end = 7 })
+unfolding stamp_in
+blanks = refl
+
+tab_after : stamp_in (codes "12.5\t57") ≡ Some (record { time = 12500000; end = 4 })
+unfolding stamp_in
+tab_after = refl
+
+blanks_alone : stamp_in (codes "  \t") ≡ None
+unfolding stamp_in
+blanks_alone = refl
+
+-- brackets around a time
+bracket_date : stamp_in (codes "[2024-02-29 00:00:01,250] INFO") ≡ Some (record { time = 63876384001250000; end = 25 })
+unfolding stamp_in
+bracket_date = refl
+
+bracket_day : stamp_in (codes " [07:58:12.08]") ≡ Some (record { time = 28692080000; end = 14 })
+unfolding stamp_in
+bracket_day = refl
+
+bracket_seconds : stamp_in (codes "[12.5]") ≡ Some (record { time = 12500000; end = 6 })
+unfolding stamp_in
+bracket_seconds = refl
+
+bracket_milliseconds : stamp_in (codes "[1717228692080]") ≡ Some (record { time = 1717228692080000; end = 15 })
+unfolding stamp_in
+bracket_milliseconds = refl
+
+bracket_open : stamp_in (codes "[12.5") ≡ None
+unfolding stamp_in
+bracket_open = refl
+
+bracket_close : stamp_in (codes "12.5]") ≡ None
+unfolding stamp_in
+bracket_close = refl
+
+bracket_blank : stamp_in (codes "[ 12.5]") ≡ None
+unfolding stamp_in
+bracket_blank = refl
+
+bracket_blank_after : stamp_in (codes "[12.5 ]") ≡ None
+unfolding stamp_in
+bracket_blank_after = refl
+
+bracket_word : stamp_in (codes "[12.5]s") ≡ None
+unfolding stamp_in
+bracket_word = refl
+
+bracket_twice : stamp_in (codes "[[12.5]]") ≡ None
+unfolding stamp_in
+bracket_twice = refl
+
+bracket_empty : stamp_in (codes "[]") ≡ None
+unfolding stamp_in
+bracket_empty = refl
+
+bracket_round : stamp_in (codes "(12.5)") ≡ None
+unfolding stamp_in
+bracket_round = refl

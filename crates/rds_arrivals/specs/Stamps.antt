@@ -1,6 +1,7 @@
 -- The time that a text begins with (this project's own rule): `@YYYY/MM/DD HH:MM:SS.CC`,
--- `YYYY-MM-DDTHH:MM:SS.CC+HH:MM`, or seconds such as `12.5`. Times are in microseconds. Byte i of the text is at place
--- i.
+-- `YYYY-MM-DDTHH:MM:SS.CC+HH:MM`, a time of day such as `HH:MM:SS.CC`, seconds such as `12.5`, or 13 digits of
+-- milliseconds. Spaces and tabs may stand before it, and brackets around it. Times are in microseconds. Byte i of the
+-- text is at place i.
 use Rattle.std.specs.Prelude.{◌+◌, ◌-◌, ◌*◌, ◌/◌, ◌%◌, ◌==◌, ◌&&◌, ◌||◌, ℕ, zero, suc, Bool, List, [], ◌∷◌, Option}
 use Rattle.std.specs.Prelude.{Some, None, drop, is_some, length, nat_le, nat_lt, not, option_and_then, option_map}
 use Rattle.std.specs.Prelude.{slice_index, if◌then◌else◌}
@@ -63,13 +64,19 @@ date_at text place =
     then days_to (100 * century + year) month day else None)
     (two_at text (place + 8))) (two_at text (place + 5))) (two_at text (place + 2))) (two_at text place)
 
+-- `07:58`; a day begins with minute 0
+abbrev pub day_minute_at : List ℕ → ℕ → Option ℕ
+day_minute_at text place =
+    option_and_then (λ hour. option_and_then (λ minute.
+    if has text (place + 2) 58 then Some (hour * 60 + minute) else None)
+    (up_to 59 (two_at text (place + 3)))) (up_to 23 (two_at text place))
+
 -- `2024/06/01 07:58` or `2024-06-01T07:58`; the year 0 begins with minute 0
 abbrev pub minute_at : List ℕ → ℕ → Option ℕ
 minute_at text place =
-    option_and_then (λ days. option_and_then (λ hour. option_and_then (λ minute.
-    if has_either text (place + 10) 32 84 && has text (place + 13) 58
-    then Some ((days * 24 + hour) * 60 + minute) else None)
-    (up_to 59 (two_at text (place + 14)))) (up_to 23 (two_at text (place + 11)))) (date_at text place)
+    option_and_then (λ days. option_and_then (λ minute.
+    if has_either text (place + 10) 32 84 then Some (days * 1440 + minute) else None)
+    (day_minute_at text (place + 11))) (date_at text place)
 
 -- `:12`; a leap second is the second after it
 abbrev pub second_at : List ℕ → ℕ → Option ℕ
@@ -102,15 +109,19 @@ fraction text first end =
     + (100 * digit_before text (first + 3) end + 10 * digit_before text (first + 4) end
     + digit_before text (first + 5) end)
 
--- the microseconds of a fraction such as `.25`, and the place after it; there may be none
-abbrev pub fraction_at : List ℕ → ℕ → Stamp
-fraction_at text place =
-    if has text place 46
+-- the microseconds of a fraction such as `.25`, and the place after it; there is none without a mark at this place
+abbrev pub fraction_at : List ℕ → ℕ → Bool → Stamp
+fraction_at text place marked =
+    if marked
     then record {
       time = fraction text (place + 1) (after_digits text (place + 1));
       end = after_digits text (place + 1);
     }
     else record { time = 0; end = place }
+
+-- the fraction of a clock's time begins with a point or a comma
+abbrev pub clock_fraction_at : List ℕ → ℕ → Stamp
+clock_fraction_at text place = fraction_at text place (has_either text place 46 44)
 
 -- a local time with the zone at this place: `Z`, `+01:00`, `-0330` or nothing
 abbrev pub minutes_at : List ℕ → ℕ → ℕ
@@ -133,31 +144,64 @@ zoned text local place =
 abbrev pub dated : List ℕ → Option Stamp
 dated text =
     let at = if has text 0 64 then 1 else 0 in
-    option_and_then (λ minutes. option_and_then (λ second. let rest = fraction_at text (at + 19) in
+    option_and_then (λ minutes. option_and_then (λ second. let rest = clock_fraction_at text (at + 19) in
     zoned text ((minutes * 60 + second) * 1000000 + rest.time) rest.end)
     (second_at text (at + 16)))
     (minute_at text at)
+
+-- a time of day alone, since midnight; it has no zone
+abbrev pub time_of_day : List ℕ → Option Stamp
+time_of_day text =
+    option_and_then (λ minutes. option_map (λ second. let rest = clock_fraction_at text 8 in
+    record { time = (minutes * 60 + second) * 1000000 + rest.time; end = rest.end })
+    (second_at text 5))
+    (day_minute_at text 0)
 
 -- the number of the first n bytes, which are digits
 abbrev pub number_of : List ℕ → ℕ → ℕ
 number_of text zero = 0
 number_of text (suc n) = 10 * number_of text n + (slice_index text n - 48)
 
--- seconds such as `12.5`, with at most twelve digits before the point
-abbrev pub in_seconds : List ℕ → Option Stamp
-in_seconds text =
+-- seconds such as `12.5`, with at most twelve digits before the point. Thirteen digits are milliseconds, with no point
+abbrev pub in_number : List ℕ → Option Stamp
+in_number text =
     let end = after_digits text 0 in
-    if (end == 0) || nat_lt 12 end then None
-    else let rest = fraction_at text end in
+    if (end == 0) || nat_lt 13 end then None
+    else if end == 13 then Some (record { time = 1000 * number_of text end; end = end })
+    else let rest = fraction_at text end (has text end 46) in
     Some (record { time = 1000000 * number_of text end + rest.time; end = rest.end })
 
--- the time ends with the text, a space or a carriage return
+-- ---- one of the forms, and what stands around it
+
+-- the first of the forms that the text begins with
+abbrev pub form_in : List ℕ → Option Stamp
+form_in text =
+    if is_some (dated text) then dated text else if is_some (time_of_day text) then time_of_day text else in_number text
+
+-- one of the forms between `[` and `]`
+abbrev pub in_brackets : List ℕ → Option Stamp
+in_brackets text =
+    option_and_then (λ stamp. if has (drop 1 text) stamp.end 93
+    then Some (record { time = stamp.time; end = stamp.end + 2 }) else None) (form_in (drop 1 text))
+
+-- the time ends with the text, a space, a tab or a carriage return
 abbrev pub is_over : List ℕ → ℕ → Bool
-is_over text place = (place == length text) || (has text place 32 || has text place 13)
+is_over text place = (place == length text) || (has_either text place 32 9 || has text place 13)
 
 abbrev pub ended : List ℕ → Option Stamp → Option Stamp
 ended text found = option_and_then (λ stamp. if is_over text stamp.end then Some stamp else None) found
 
--- the time that the text begins with
+-- the time that a text without blanks before it begins with
+abbrev pub stamp_at_once : List ℕ → Option Stamp
+stamp_at_once text = ended text (if has text 0 91 then in_brackets text else form_in text)
+
+-- the number of spaces and tabs that the bytes begin with
+abbrev pub leading_blanks : List ℕ → ℕ
+leading_blanks [] = 0
+leading_blanks (byte ∷ rest) = if (byte == 32) || (byte == 9) then suc (leading_blanks rest) else 0
+
+-- the time that a text begins with, after spaces and tabs
 unfoldable pub stamp_in : List ℕ → Option Stamp
-stamp_in text = if is_some (dated text) then ended text (dated text) else ended text (in_seconds text)
+stamp_in text =
+    let blanks = leading_blanks text in
+    option_map (λ stamp. record { time = stamp.time; end = blanks + stamp.end }) (stamp_at_once (drop blanks text))

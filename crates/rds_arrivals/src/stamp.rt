@@ -15,8 +15,19 @@ pub struct Stamp {
 /// The microseconds of a second.
 const SECOND: u64 = 1_000_000;
 
-/// Returns the time that the text begins with: `@YYYY/MM/DD HH:MM:SS.CC`, `YYYY-MM-DDTHH:MM:SS.CC+HH:MM`, or seconds
-/// such as `12.5`. `None` if it does not begin with one, or if the time does not end with a space or the line.
+/// The minutes of a day.
+const MINUTES_OF_DAY: u64 = 1440;
+
+/// The microseconds of a millisecond.
+const MILLISECOND: u64 = 1000;
+
+/// So many digits are milliseconds: those since 1970 have as many from 2001 to 2286. Fewer digits are seconds.
+const DIGITS_OF_MILLISECONDS: usize = 13;
+
+/// Returns the time that the text begins with, after spaces and tabs: `@YYYY/MM/DD HH:MM:SS.CC`,
+/// `YYYY-MM-DDTHH:MM:SS.CC+HH:MM`, a time of day such as `HH:MM:SS.CC`, seconds such as `12.5`, or 13 digits of
+/// milliseconds. Brackets may stand around it. `None` if the text does not begin with a time, or if the time does not
+/// end with a space, a tab, a carriage return or the text.
 pub fn stamp_in(text: &[u8]) -> Option<Stamp>
     requires { length text.now ≤ 64 }
     ensures value { result ≡ specs.stamp_in text.now }
@@ -32,9 +43,36 @@ pub fn stamp_after(last: &mut LastMinute, text: &[u8]) -> Option<Stamp>
     ensures value { result ≡ specs.stamp_in text.now }
     ensures within { IfSome result (λ stamp. stamp.end ≤ length text.now) }
 {
-    let stamp = match dated(last, text) {
-        Some(stamp) => stamp,
-        None => in_seconds(text)?,
+    let blanks = leading_blanks(text);
+    let stamp = stamp_at_once(last, &text[blanks..])?;
+    Some(Stamp {
+        time: stamp.time,
+        end: blanks + stamp.end,
+    })
+}
+
+/// Returns the number of spaces and tabs that the text begins with.
+fn leading_blanks(text: &[u8]) -> usize
+    ensures value { result ≡ specs.leading_blanks text.now }
+    ensures within { result ≤ length text.now }
+{
+    let mut count = 0;
+    while count < text.len() && (text[count] == b' ' || text[count] == b'\t') {
+        count += 1;
+    }
+    count
+}
+
+/// Returns the time that a text without blanks before it begins with.
+fn stamp_at_once(last: &mut LastMinute, text: &[u8]) -> Option<Stamp>
+    requires { length text.now ≤ 64 }
+    ensures value { result ≡ specs.stamp_at_once text.now }
+    ensures within { IfSome result (λ stamp. stamp.end ≤ length text.now) }
+{
+    let stamp = if has(text, 0, b'[') {
+        in_brackets(last, text)?
+    } else {
+        form_in(last, text)?
     };
     if is_over(text, stamp.end) {
         Some(stamp)
@@ -43,12 +81,44 @@ pub fn stamp_after(last: &mut LastMinute, text: &[u8]) -> Option<Stamp>
     }
 }
 
-/// Returns whether the time ends here: with the text, a space or a carriage return.
+/// Returns the time between brackets, such as `[07:58:12]`.
+fn in_brackets(last: &mut LastMinute, text: &[u8]) -> Option<Stamp>
+    requires some { 0 < length text.now }
+    requires few { length text.now ≤ 64 }
+    ensures value { result ≡ specs.in_brackets text.now }
+{
+    let inner = &text[1..];
+    let stamp = form_in(last, inner)?;
+    if !has(inner, stamp.end, b']') {
+        return None;
+    }
+    Some(Stamp {
+        time: stamp.time,
+        end: stamp.end + 2,
+    })
+}
+
+/// Returns the first of the forms of a time that the text begins with.
+fn form_in(last: &mut LastMinute, text: &[u8]) -> Option<Stamp>
+    requires { length text.now ≤ 64 }
+    ensures value { result ≡ specs.form_in text.now }
+    ensures end { IfSome result (λ stamp. stamp.end ≤ 210) }
+{
+    if let Some(stamp) = dated(last, text) {
+        return Some(stamp);
+    }
+    if let Some(stamp) = time_of_day(text) {
+        return Some(stamp);
+    }
+    in_number(text)
+}
+
+/// Returns whether the time ends here: with the text, a space, a tab or a carriage return.
 fn is_over(text: &[u8], place: usize) -> bool
     ensures value { result ≡ specs.is_over text.now place }
     ensures within { IsTrue result → place ≤ length text.now }
 {
-    place == text.len() || has(text, place, b' ') || has(text, place, b'\r')
+    place == text.len() || has_either(text, place, b' ', b'\t') || has(text, place, b'\r')
 }
 
 /// Returns whether this byte is at this place.
@@ -105,7 +175,8 @@ fn two_up_to(text: &[u8], place: usize, most: u64) -> Option<u64>
 #[tactic(auto, using(crate::proofs::Fractions::no_date))]
 fn dated(last: &mut LastMinute, text: &[u8]) -> Option<Stamp>
     requires { length text.now ≤ 64 }
-    ensures { result ≡ specs.dated text.now }
+    ensures value { result ≡ specs.dated text.now }
+    ensures end { IfSome result (λ stamp. stamp.end ≤ 210) }
 {
     let at = usize::from(has(text, 0, b'@'));
     if text.len() < at + 19 {
@@ -113,7 +184,7 @@ fn dated(last: &mut LastMinute, text: &[u8]) -> Option<Stamp>
     }
     let minutes = last.minutes_at(text, at)?;
     let second = second_at(text, at + 16)?;
-    let fraction = fraction_at(text, at + 19);
+    let fraction = clock_fraction_at(text, at + 19);
     let local = (minutes * 60 + second) * SECOND + fraction.time;
     zoned(text, local, fraction.end)
 }
@@ -128,12 +199,25 @@ pub(crate) fn minute_at(text: &[u8], place: usize) -> Option<u64>
     ensures small { IfSome result (λ minutes. minutes < 2 ^ 33) }
 {
     let days = date_at(text, place)?;
-    let hour = two_up_to(text, place + 11, 23)?;
-    let minute = two_up_to(text, place + 14, 59)?;
-    if !has_either(text, place + 10, b' ', b'T') || !has(text, place + 13, b':') {
+    let minute = day_minute_at(text, place + 11)?;
+    if !has_either(text, place + 10, b' ', b'T') {
         return None;
     }
-    Some((days * 24 + hour) * 60 + minute)
+    Some(days * MINUTES_OF_DAY + minute)
+}
+
+/// Returns the minute of the day at this place, such as `07:58`.
+fn day_minute_at(text: &[u8], place: usize) -> Option<u64>
+    requires { place ≤ 12 }
+    ensures value { result ≡ specs.day_minute_at text.now place }
+    ensures small { IfSome result (λ minute. minute < 1440) }
+{
+    let hour = two_up_to(text, place, 23)?;
+    let minute = two_up_to(text, place + 3, 59)?;
+    if !has(text, place + 2, b':') {
+        return None;
+    }
+    Some(hour * 60 + minute)
 }
 
 /// Returns the day of a date at this place, such as `2024/06/01` or `2024-06-01`.
@@ -164,14 +248,25 @@ fn second_at(text: &[u8], place: usize) -> Option<u64>
     two_up_to(text, place + 1, 60)
 }
 
-/// Returns the microseconds of a fraction at this place, such as `.25`. There may be none. Its first six digits count.
-fn fraction_at(text: &[u8], place: usize) -> Stamp
+/// Returns the fraction of a clock's time at this place, such as `.25` or `,25`. There may be none.
+fn clock_fraction_at(text: &[u8], place: usize) -> Stamp
     requires { place ≤ 64 }
-    ensures value { result ≡ specs.fraction_at text.now place }
+    ensures value { result ≡ specs.clock_fraction_at text.now place }
     ensures small { result.time ≤ 999999 }
     ensures end { result.end ≤ 65 + length text.now }
 {
-    if !has(text, place, b'.') {
+    fraction_at(text, place, has_either(text, place, b'.', b','))
+}
+
+/// Returns the microseconds of a fraction at this place, such as `.25`. None if no mark is there. Its first six digits
+/// count.
+fn fraction_at(text: &[u8], place: usize, is_marked: bool) -> Stamp
+    requires { place ≤ 64 }
+    ensures value { result ≡ specs.fraction_at text.now place is_marked }
+    ensures small { result.time ≤ 999999 }
+    ensures end { result.end ≤ 65 + length text.now }
+{
+    if !is_marked {
         return Stamp {
             time: 0,
             end: place,
@@ -205,7 +300,8 @@ fn after_digits(text: &[u8], place: usize) -> usize
 fn zoned(text: &[u8], local: u64, place: usize) -> Option<Stamp>
     requires place { place ≤ 200 }
     requires local { local < 2 ^ 60 }
-    ensures { result ≡ specs.zoned text.now local place }
+    ensures value { result ≡ specs.zoned text.now local place }
+    ensures end { IfSome result (λ stamp. stamp.end ≤ place + 6) }
 {
     if has(text, place, b'Z') {
         return Some(Stamp {
@@ -234,31 +330,54 @@ fn zoned(text: &[u8], local: u64, place: usize) -> Option<Stamp>
     })
 }
 
-/// Returns the time of seconds with a fraction, such as `12.5`. There are at most twelve digits before the point.
-#[tactic(auto, using(std::proofs::lemmas::Bool::Decides::nat_tests, crate::proofs::Fractions::all_lead))]
-fn in_seconds(text: &[u8]) -> Option<Stamp>
+/// Returns the time of day that the text begins with, such as `07:58:12.08`, since midnight.
+fn time_of_day(text: &[u8]) -> Option<Stamp>
     requires { length text.now ≤ 64 }
-    ensures value { result ≡ specs.in_seconds text.now }
+    ensures value { result ≡ specs.time_of_day text.now }
+    ensures end { IfSome result (λ stamp. stamp.end ≤ 200) }
+{
+    let minutes = day_minute_at(text, 0)?;
+    let second = second_at(text, 5)?;
+    let fraction = clock_fraction_at(text, 8);
+    Some(Stamp {
+        time: (minutes * 60 + second) * SECOND + fraction.time,
+        end: fraction.end,
+    })
+}
+
+/// Returns the time of seconds with a fraction, such as `12.5`, with at most twelve digits before the point, or of
+/// milliseconds.
+#[tactic(auto, using(std::proofs::lemmas::Bool::Decides::nat_tests, crate::proofs::Fractions::all_lead))]
+fn in_number(text: &[u8]) -> Option<Stamp>
+    requires { length text.now ≤ 64 }
+    ensures value { result ≡ specs.in_number text.now }
+    ensures end { IfSome result (λ stamp. stamp.end ≤ 200) }
 {
     let end = after_digits(text, 0);
-    if end == 0 || end > 12 {
+    if end == 0 || end > DIGITS_OF_MILLISECONDS {
         return None;
     }
-    let whole = number_of(text, end);
-    let rest = fraction_at(text, end);
+    let number = number_of(text, end);
+    if end == DIGITS_OF_MILLISECONDS {
+        return Some(Stamp {
+            time: MILLISECOND * number,
+            end,
+        });
+    }
+    let rest = fraction_at(text, end, has(text, end, b'.'));
     Some(Stamp {
-        time: SECOND * whole + rest.time,
+        time: SECOND * number + rest.time,
         end: rest.end,
     })
 }
 
 /// Returns the number of the digits before this place.
 fn number_of(text: &[u8], end: usize) -> u64
-    requires few { end ≤ 12 }
+    requires few { end ≤ 13 }
     requires within { end ≤ length text.now }
     requires digits { (k : ℕ) → k < end → IsTrue (specs.is_digit (slice_index text.now k)) }
     ensures value { result ≡ specs.number_of text.now end }
-    ensures small { result < 10 ^ 12 }
+    ensures small { result < 10 ^ 13 }
 {
     let mut number: u64 = 0;
     for place in 0..end {

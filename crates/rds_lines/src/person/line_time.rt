@@ -7,7 +7,8 @@ use rds_arrivals::LastMinute;
 /// The most bytes of a time that is kept.
 const LONGEST: usize = 40;
 
-/// The time in the line of a slot, for a person (this project's own rule). No contract speaks of it.
+/// The time in the line of a slot, for a person, without the blanks before it (this project's own rule). No contract
+/// speaks of it.
 #[derive(Clone, Copy, Debug, PartialEq, Eq)]
 pub struct LineTime {
     bytes: [u8; LONGEST],
@@ -33,7 +34,7 @@ impl LineTime {
         let Some(stamp) = stamp_of(&mut LastMinute::new(), start) else {
             return time;
         };
-        let text = &start[TIME..TIME + stamp.end];
+        let text = start[TIME..TIME + stamp.end].trim_ascii_start();
         for (byte, place) in text.iter().zip(time.bytes.iter_mut()) {
             *place = *byte;
         }
