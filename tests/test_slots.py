@@ -10,6 +10,7 @@ import select
 import subprocess
 
 from tests.calls import DECODE
+from tests.plain_times import time_in
 from tests.slot import NINETEEN_SLOTS, SLOT
 from tests.support import PROGRAM, SECONDS, ProgramCase, ran
 
@@ -42,6 +43,25 @@ CALENDAR = [
     ("a second later in another zone", ["2024-06-01T07:58:12Z", "2024-06-01 02:58:13-0500"], [0, 11]),
     ("exactly an hour", [JUNE("00:00:00.00"), JUNE("01:00:00.00")], [0, 41_105]),
 ]
+# two times with a second between them, in each form
+WRITTEN = [
+    ("a comma before the fraction", ["2024-06-01 07:58:12,080", "@2024/06/01 07:58:13.08"]),
+    ("a comma, and a zone", ["2024-06-01T09:58:12,08+02:00", "2024-06-01T07:58:13,080Z"]),
+    ("a time of day", ["07:58:12.08", "07:58:13.08"]),
+    ("a time of day with a comma", ["07:58:12,080", "07:58:13.08"]),
+    ("a time of day in whole seconds", ["07:59:59", "08:00:00"]),
+    ("a leap second of the day", ["23:59:59", "23:59:60"]),
+    ("a point without digits", ["07:58:12.", "07:58:13,"]),
+    ("milliseconds", ["1717228692080", "1717228693080"]),
+    ("milliseconds, then seconds", ["1717228692080", "1717228693.08"]),
+    ("seconds of 12 digits", ["171722869208", "171722869209"]),
+    ("more spaces", [" 1.0", "   2.0"]),
+    ("tabs", ["\t1.0", " \t \t2.0"]),
+    ("brackets around a date", ["[2024-06-01 07:58:12,080]", "[@2024/06/01 07:58:13.08]"]),
+    ("brackets around a time of day", ["[07:58:12.08]", "  [07:58:13.08]"]),
+    ("brackets around seconds", ["[1.0]", "2.0"]),
+    ("brackets around milliseconds", ["\t[1717228692080]", "1717228693080"]),
+]
 JUMPS = [
     ("an hour back", ["@2024/10/27 02:59:59.00", "@2024/10/27 02:00:00.00", "@2024/10/27 02:00:00.09"], [0, M, 0]),
     ("a hundredth back", ["9", "8.99", "9.08"], [0, M, 0]),
@@ -49,7 +69,15 @@ JUMPS = [
 ]
 SKIPPED = ["", "# note", '<recorder="balcony">', "% end"]
 UNTIMED = ["", " soon", " @2024/13/01 00:00:00.00", " @2024/06/01 24:00:00.00", " @2024/02/30 00:00:00.00", " -1",
-           " 07:58:12", " @2024/06/01 07:58:12.00x"]
+           " @2024/06/01 07:58:12.00x", " 2024-06-01 07:58:12;080", " 2024-06-01  07:58:12", " 2024-06-01", " 07:58",
+           " 7:58:12", " 24:00:00", " 07:60:00", " 07:58:61", " 07:58:12Z", " 07:58:12+01:00", " 07:58:12:08", " @07:58:12",
+           " 12,5", " 1e3", " .5", " 17172286920800", " 1717228692080.5", " 1717228692080,5", " [12.5", " 12.5]", " [ 12.5]",
+           " [12.5 ]", " [12.5]s", " [[12.5]]", " []", " (12.5)", " \t", " INFO 07:58:12", " 01.06.2024 07:58:12",
+           " Jun 1 07:58:12", " \xa012.5", " \x0b12.5"]
+# the note on groups that were left out
+LEFT_OUT = ("rdsrt: {}. A time looks like @2024/06/01 07:58:12.08, 2024-06-01 07:58:12,080, 07:58:12.08, 12.5 or "
+            "1717228692080. slots does not read 12,5, 07:58, 07:58:12Z, 01.06.2024 07:58:12, names of months, or a time after "
+            "another word. An audit of this output does not judge {}\n")
 # the note on all breaks at the end: how many there are, and where to cut the log
 END = "rdsrt: the times have {}. Do not audit this output: cut the log before {}, and audit each part with --running\n"
 MALFORMED = ["C201 2140 4849 0D2 1", "C201  2140 4849 0D20 1", "hello", HI + "5"]
@@ -72,6 +100,22 @@ def lost(earlier, later, grain=20_000):
     """Returns how many slots are lost between two times in microseconds, by the rule above. M after a break."""
     apart = later - earlier
     return max(0, -(-19 * (apart - grain) // NINETEEN_SLOTS) - 1) if 0 <= apart <= HOUR else M
+
+
+def written(rng, base):
+    """Returns a time in one of the forms, or something near it. `base` is in microseconds."""
+    date = datetime.datetime(1900, 1, 1) + datetime.timedelta(microseconds=base)
+    clock = date.strftime("%H:%M:%S") + rng.choice(["", f".{date.microsecond:06}", f",{date.microsecond // 1000:03}", ".", ",5"])
+    text = rng.choice([
+        rng.choice(["", "@"]) + date.strftime(rng.choice(["%Y-%m-%d", "%Y/%m/%d"])) + rng.choice(" T") + clock
+        + rng.choice(["", "", "Z", "+01:00", "-0330"]),
+        clock, f"{base / 1e6:.{rng.randrange(7)}f}", str(base)[:13], str(base // 1000), str(base // 1000 + 10**12)])
+    text = rng.choice(["", "", "", " ", "\t", " \t "]) + rng.choice(["{}", "{}", "[{}]"]).format(text)
+    text += rng.choice(["", "", " 57", "\t57", "\r"])
+    if rng.random() < 0.5:
+        place = rng.randrange(len(text) + 1)
+        text = text[:place] + rng.choice(["", *" \t[]@:-/.,TZ+0127x"]) + text[place + rng.randrange(2):]
+    return text
 
 
 def spoiled(rng, m):
@@ -129,6 +173,17 @@ class Worked(ProgramCase):
     def test_dates_zones_and_leap_seconds_are_understood(self):
         self.compare(CALENDAR)
 
+    def test_each_form_of_a_time_is_read(self):
+        self.compare([(name, times, [0, 11]) for name, times in WRITTEN])
+
+    def test_a_time_of_day_goes_back_at_midnight(self):
+        """The line does not show whether midnight passed or a clock was set."""
+        lines = [f"{HI} {time}" for time in ("23:59:59.96", "00:00:00.04", "00:00:01.09")]
+        status, slots, comments, notes = filled(lines, "--m", "3")
+        self.check("midnight", (status, slots, comments), (1, [lines[0], *[LOST] * 3, lines[1], *[LOST] * 11, lines[2]],
+                                                          ["# time went back"]))
+        self.check("the notes", notes, note_at("time went back", 2) + END.format("1 break, before line 2", "line 2"))
+
     def test_a_time_that_jumps_begins_a_new_count_after_a_dwell(self):
         self.compare(JUMPS, breaks=1)
         _, slots, _, _ = filled([f"{HI} 2", f"{HI} 1"], "--m", "3")
@@ -160,6 +215,7 @@ class Worked(ProgramCase):
         lines = [f"{HI} {JUNE('07:58:12.00')}", f"{HI} {JUNE('07:58:13.00')}"]
         wanted = filled(lines)[1]
         self.check("a signal strength", filled([f"{lines[0]} 57", f"{lines[1]} 55"])[1], wanted)
+        self.check("a tab before it", filled([f"{lines[0]}\t57", f"{lines[1]}\t55"])[1], wanted)
         self.check("eleven lost slots", wanted, [lines[0], *[LOST] * 11, lines[1]])
         endless = [f"{line} {'x' * 1_000_000}" for line in lines]
         self.check("a line of a megabyte", filled(endless)[1], wanted)
@@ -174,13 +230,16 @@ class Worked(ProgramCase):
         for more in UNTIMED:
             status, slots, _, notes = filled([f"{HI} 1.00", HI + more, f"{HI} 1.09\r"])
             self.check(f"{more!r}", (status, slots), (0, [f"{HI} 1.00", f"{HI} 1.09"]))
-            self.check(f"the note on {more!r}", "1 group without a time was left out" in notes, True, notes)
+            self.check(f"the note on {more!r}", notes, LEFT_OUT.format("1 group without a time was left out", "it"))
+            self.check(f"{more!r} by the rule", time_in(more[1:]), None)
+        _, _, _, notes = filled([f"{HI} 1.00", HI, HI])
+        self.check("two of them", notes, LEFT_OUT.format("2 groups without a time were left out", "them"))
         for line in SKIPPED:
             self.check(f"{line!r}", filled([f"{HI} 1.00", line])[:3], (0, [f"{HI} 1.00"], []))
 
     def test_a_log_whose_times_nobody_understands_ends_with_status_1(self):
         """Groups alone count, and one group with a time is enough."""
-        for times in (["07:58:12"], ["1717228692080"], ["12,5", "", "soon"]):
+        for times in (["07:58"], ["17172286920800"], ["12,5", "", "soon"]):
             lines = [f"{HI} {time}" for time in times]
             for words in ([], ["--quiet"], ["--pi", "C201"]):
                 status, slots, _, notes = filled([LOST, *lines, LOST], *words)
@@ -196,6 +255,12 @@ class Worked(ProgramCase):
             line = f"{HI} 2024-06-01T07:58:12.{'0' * zeros}"
             for more in ("", " 57", "+01:00"):
                 self.check(f"{zeros} zeros and {more!r}", len(filled([line + more])[1]), count * (more != "+01:00"))
+        # 20 bytes before the zeros, and those around them
+        for front, back in (("", "]"), ("   ", ""), ("\t", "]")):
+            for zeros, count in ((19, 1), (20, 0)):
+                zeros -= len(front + back + "[" * len(back))
+                line = f"{HI} {front}{'[' * len(back)}2024-06-01T07:58:12.{'0' * zeros}{back}"
+                self.check(f"{line!r}", len(filled([line])[1]), count)
 
     def test_lost_slots_that_were_told_too_early_count(self):
         """Eleven lost slots, and the next group is 0.09 s after the last one. Without the line between them the times are fine.
@@ -282,6 +347,27 @@ class ByChance(ProgramCase):
                     time = max(0, time + rng.choice([-10_000, -HOUR, HOUR + 10_000]))
             found = filled(lines, "--grain", str(grain))
             self.check(f"seed {SEED}, log {number}, grain {grain}", found[1], wanted, "\n".join(lines))
+
+    def test_random_texts_after_a_group_are_times_by_the_rule(self):
+        """4,000 logs of times in each form, half of them with a character changed, put in or left out. What comes out
+        shows which texts are times, where they end, and what they count."""
+        seen = {"times": 0, "none": 0, "an hour or less": 0}
+        for number, rng in self.cases(random.Random(f"{SEED} forms {it}") for it in range(4000)):
+            lines, wanted, last, base = [], [], None, rng.randrange(10**16)
+            for _ in range(6):
+                base += rng.randrange(10**6)
+                lines.append(f"{HI} {written(rng, base)}")
+                read = time_in(lines[-1][len(HI) + 1:])
+                seen["times" if read else "none"] += 1
+                if read:
+                    time, end = read
+                    near = last is not None and 0 <= time - last <= HOUR
+                    wanted += ([LOST] * (lost(last, time) if near else last is not None)
+                               + [lines[-1][:len(HI) + 1 + end]])
+                    seen["an hour or less"] += near
+                    last = time
+            self.check(f"seed {SEED}, log {number}", filled(lines, "--m", "1")[1], wanted, "\n".join(lines))
+        self.check_all(f"each kind of texts: {seen}", min(seen.values()) > 1000, True)
 
     @staticmethod
     def shown(rng, time):

@@ -516,11 +516,12 @@ fn slots<'a>(alloc: Global) -> Result<Command<'a>, AllocError>
         about: "Reads a log of received groups with times and adds a line for each lost slot",
         ending: "Most receivers print only the groups that they received. The other commands need a\n\
                  line for each slot, so put this one before them. Give it their M.\n\n\
-                 A time stands after the group: @2024/06/01 07:58:12.08, 2024-06-01T07:58:12.08Z, or\n\
-                 seconds such as 12.5. A group without a time is left out. A line with a time and a\n\
-                 lost block says that no group came until then. If a group's time is earlier than\n\
-                 that of the group before it, or more than an hour later, a comment and at least M lost\n\
-                 slots are added, and the status is 1: do not audit this output.\n\n\
+                 A time stands after the group: @2024/06/01 07:58:12.08, 2024-06-01T07:58:12.08Z,\n\
+                 07:58:12.08, seconds such as 12.5, or 13 digits of milliseconds. A group without a time\n\
+                 is left out. A line with a time and a lost block says that no group came until then. If\n\
+                 a group's time is earlier than that of the group before it, or more than an hour later,\n\
+                 a comment and at least M lost slots are added, and the status is 1: do not audit this\n\
+                 output. A time without a date goes back at midnight.\n\n\
                  No slot is missing if the delay of the groups varies by less than a slot (87.5 ms)\n\
                  less the grain. None is added in vain if it varies by at most the grain. If more are\n\
                  counted than a station sends in that time, the times are too coarse: status 1.\n\n\

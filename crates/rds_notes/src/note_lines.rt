@@ -375,7 +375,7 @@ pub(crate) fn first_line(breaks: Breaks) -> u64 {
     }
 }
 
-/// Appends how many groups have no time, and what a time looks like.
+/// Appends how many groups have no time, what a time looks like, and that an audit does not judge these groups.
 fn push_untimed(untimed: u64, line: &mut Line) {
     push_count(
         untimed,
@@ -384,7 +384,13 @@ fn push_untimed(untimed: u64, line: &mut Line) {
         line,
     );
     push_left_out(untimed, line);
-    let _ = write!(line, ". A time looks like @2024/06/01 07:58:12.08 or 12.5");
+    let them = if untimed == 1 { "it" } else { "them" };
+    let _ = write!(
+        line,
+        ". A time looks like @2024/06/01 07:58:12.08, 2024-06-01 07:58:12,080, 07:58:12.08, 12.5 or 1717228692080. \
+         slots does not read 12,5, 07:58, 07:58:12Z, 01.06.2024 07:58:12, names of months, or a time after another \
+         word. An audit of this output does not judge {them}"
+    );
 }
 
 /// Appends that so many things were left out.
