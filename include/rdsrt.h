@@ -81,7 +81,7 @@
  *     rdsrt_receiver_held               32   32    rdsrt_audit_passed                32   32
  *     rdsrt_display_init                32   32    rdsrt_display_slot               288  288
  *     rdsrt_slot_time                   32   32    rdsrt_audit_texts                 32   32
- *     rdsrt_time_in                    160  128    rdsrt_audit_names                 32   32
+ *     rdsrt_time_in                    288  288    rdsrt_audit_names                 32   32
  *     rdsrt_lost_slots                  32   32    rdsrt_audit_texts_turn_the_flag   32   32
  *     rdsrt_encoder_init                32   32    rdsrt_audit_names_turn_the_flag   32   32
  *     rdsrt_encoder_set_text           256  288    rdsrt_text_to_display            320  320
@@ -287,8 +287,16 @@ uint32_t rdsrt_exchange_tag_group(uint8_t number, uint16_t blocks[4]);
 uint64_t rdsrt_slot_time(uint32_t slots);
 
 /* Reads the time that a text begins with, in microseconds: what follows the blocks and a space in a line of a log.
- * FORMATS.md has the forms. The time ends within the first 40 bytes, at a space, a carriage return or the end.
- * Returns RDSRT_OK, or RDSRT_UNKNOWN, and *time is unchanged, if the text does not begin with a time. */
+ * These are the forms of FORMATS.md:
+ * - 2024-06-01T07:58:12.08+02:00, or with @ before it, / for -, a space for T, a comma for the point, without a zone,
+ *   or with the zone Z or +0200. It counts from the first day of the year 0; with a zone in UTC.
+ * - 07:58:12.08, or with a comma. It counts from midnight.
+ * - 12.5: seconds with at most 12 digits before the point.
+ * - 1717228692080: 13 digits are milliseconds, without a fraction.
+ * The fraction may be left out. Spaces and tabs may come before the time, and [ and ] around it. After it comes a space, a
+ * tab, a carriage return or the end of the text. The time, with these spaces and brackets, ends within the first 40 bytes.
+ * (The command slots of the program reads one that ends within 39.)
+ * Returns RDSRT_OK, or RDSRT_UNKNOWN, and *time is unchanged, if the text does not begin with such a time. */
 uint32_t rdsrt_time_in(const uint8_t *text, size_t length, uint64_t *time);
 
 /* Returns how many slots were lost between two groups that arrived at these times, in microseconds of any clock: the

@@ -33,6 +33,16 @@ class Logs(unittest.TestCase):
         with self.assertRaises(MalformedLine):
             list(read_timed(["C201 2140"]))
 
+    def test_each_form_of_a_time(self):
+        """A time of day counts from midnight, and a date from 1970, also behind blanks and in brackets."""
+        day, seconds = 1717200000, 7 * 3600 + 58 * 60 + 12
+        for text, time in (("2024-06-01 07:58:12,080", day + seconds + 0.08), ("[2024-06-01 07:58:12,080]", day + seconds + 0.08),
+                           (" \t@2024/06/01 07:58:12", day + seconds), ("07:58:12.08", seconds + 0.08),
+                           ("[07:58:12]", seconds), ("1717228692080", day + seconds + 0.08), (" 12.5\t57", 12.5)):
+            self.assertEqual(list(read_timed([f"C201 2140 4849 0D20 {text}"])), [(time, HI)], text)
+        for text in ("07:58", "12,5", "17172286920800", "[12.5", "[ 12.5]"):
+            self.assertEqual(list(read_timed([f"C201 2140 4849 0D20 {text}"])), [], text)
+
     def test_a_change_has_the_time_of_its_slot(self):
         """The text goes M slots after its group, in a slot that was lost."""
         timed = [(5.0, HI), (9.0, HI)]

@@ -363,6 +363,17 @@ static void times(void) {
     CHECK(rdsrt_lost_slots(0, 1, 87579) == RDSRT_UNKNOWN);
 }
 
+/* The text begins with this time, and with no other. */
+static void is_time(const char *text, uint64_t wanted) {
+    uint64_t time = ~wanted;
+    CHECK(rdsrt_time_in(bytes(text), strlen(text), &time) == RDSRT_OK && time == wanted);
+}
+
+static void is_no_time(const char *text) {
+    uint64_t time = 7;
+    CHECK(rdsrt_time_in(bytes(text), strlen(text), &time) == RDSRT_UNKNOWN && time == 7);
+}
+
 static void times_of_lines(void) {
     const uint8_t seconds[] = "12.5 x", zone[] = "1970-01-01T01:00:00.25+01:00", none[] = "soon";
     uint8_t late[45] = "12.0000000000000000000000000000000000000000";
@@ -373,10 +384,33 @@ static void times_of_lines(void) {
     CHECK(rdsrt_time_in(none, 4, &time) == RDSRT_UNKNOWN && time == UINT64_C(719528) * 86400000000 + 250000);
     CHECK(rdsrt_time_in(NULL, 0, &time) == RDSRT_UNKNOWN);
     CHECK(rdsrt_time_in(late, 40, &time) == RDSRT_OK && time == 12000000);
+    /* one digit more, and a space or another byte after the 40 */
+    CHECK(rdsrt_time_in(late, 41, &time) == RDSRT_UNKNOWN);
+    late[40] = ' ';
+    CHECK(rdsrt_time_in(late, 45, &time) == RDSRT_OK && time == 12000000);
     late[40] = 'x';
-    CHECK(rdsrt_time_in(late, 41, &time) == RDSRT_OK);
+    CHECK(rdsrt_time_in(late, 41, &time) == RDSRT_UNKNOWN);
     late[39] = 'x';
     CHECK(rdsrt_time_in(late, 41, &time) == RDSRT_UNKNOWN);
+    /* 38 spaces, and a number that ends within the 40 bytes or not */
+    is_time("                                      12", 12000000);
+    is_no_time("                                      1234");
+    /* 07:58:12.08 is 28,692.08 s after midnight, and 00:00:01.25 of 1970-01-01 is 719,528 days and 1.25 s */
+    is_time("07:58:12.08", UINT64_C(28692080000));
+    is_time("  \t[07:58:12,080]\t57", UINT64_C(28692080000));
+    is_time("1970-01-01 00:00:01,250", UINT64_C(719528) * 86400000000 + 1250000);
+    is_time("[@1970/01/01 00:00:01.25] x", UINT64_C(719528) * 86400000000 + 1250000);
+    is_time("1717228692080", UINT64_C(1717228692080000));
+    is_time("171722869208", UINT64_C(171722869208000000));
+    is_no_time("07:58");
+    is_no_time("07:58:12Z");
+    is_no_time("24:00:00");
+    is_no_time("12,5");
+    is_no_time("17172286920800");
+    is_no_time("1717228692080.5");
+    is_no_time("[12.5");
+    is_no_time("12.5]");
+    is_no_time("[ 12.5]");
 }
 
 static void texts(void) {

@@ -9,3 +9,5 @@ pub mod Viewed
 pub mod Tagged
 pub mod Texts
 pub mod Held
+-- The time that a text begins with.
+pub mod Times

@@ -1,13 +1,13 @@
 //! Times and slots.
-ghost use Rattle.std.specs.Prelude.{◌≡◌, ◌≢◌, ◌≤◌, ◌<◌, ◌-◌, ◌*◌, ◌/◌, ◌⊎◌, IsSome, IfSome, take};
+ghost use Rattle.std.specs.Prelude.{◌≡◌, ◌≢◌, ◌≤◌, ◌<◌, ◌-◌, ◌*◌, ◌/◌, ◌⊎◌, IsSome, IfSome};
 ghost use Rattle.rds_arrivals.specs.Arrivals.{IsBreak, lost_within, nineteen_slots};
-ghost use Rattle.rds_arrivals.specs.Stamps.{stamp_in};
 ghost use Rattle.rds_ffi.specs.Codes.{RDSRT_OK, RDSRT_UNKNOWN};
+ghost use Rattle.rds_ffi.specs.Times.{time_in};
 
 use crate::codes;
 use rds_arrivals::{Grain, lost_between, stamp_in, time_of};
 
-/// How many bytes of a text a time may have.
+/// The most bytes of a time, with what stands before it and around it.
 const LONGEST_TIME: usize = 40;
 
 /// Returns how long so many slots take, in microseconds, rounded down (IEC 62106).
@@ -41,24 +41,28 @@ pub extern "C" fn rdsrt_lost_slots(earlier: u64, later: u64, grain: u32) -> u32
 }
 
 /// Reads the time that a text begins with, in microseconds: what follows the blocks and a space in a line of a log
-/// (this project's own rule, docs/FORMATS.md). It ends within the first 40 bytes.
+/// (this project's own rule, docs/FORMATS.md). It ends within the first 40 bytes. A date counts from the year 0, a time
+/// of day from midnight, and seconds and milliseconds from a moment of their own.
 ///
 /// # Errors
 ///
-/// `RDSRT_UNKNOWN` if the text does not begin with a time. The time is then unchanged.
+/// `RDSRT_UNKNOWN` if the text does not begin with such a time. The time is then unchanged.
 #[unsafe(no_mangle)]
 pub extern "C" fn rdsrt_time_in(text: &[u8], time: &mut u64) -> u32
-    ensures found { result ≡ RDSRT_OK
-        → IfSome (stamp_in (take 40 text.now)) (λ stamp. time.new ≡ stamp.time) }
-    ensures there { result ≡ RDSRT_OK → IsSome (stamp_in (take 40 text.now)) }
-    ensures none { result ≢ RDSRT_OK → IsSome (stamp_in (take 40 text.now)) → ⊥ }
+    ensures found { result ≡ RDSRT_OK → IfSome (time_in text.now) (λ stamp. time.new ≡ stamp.time) }
+    ensures there { result ≡ RDSRT_OK → IsSome (time_in text.now) }
+    ensures none { result ≢ RDSRT_OK → IsSome (time_in text.now) → ⊥ }
     ensures codes { (result ≡ RDSRT_OK) ⊎ (result ≡ RDSRT_UNKNOWN) }
     ensures kept { result ≢ RDSRT_OK → time.new ≡ time.old }
 {
-    let count = LONGEST_TIME.min(text.len());
+    // the byte after the longest time shows that it ends
+    let count = (LONGEST_TIME + 1).min(text.len());
     let Some(stamp) = stamp_in(&text[..count]) else {
         return codes::UNKNOWN;
     };
+    if stamp.end > LONGEST_TIME {
+        return codes::UNKNOWN;
+    }
     *time = stamp.time;
     codes::OK
 }

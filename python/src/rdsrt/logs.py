@@ -16,7 +16,7 @@ Group = Tuple[int, int, int, int]
 _BLOCK = "([0-9A-Fa-f]{4}|----)"
 _WORD = re.compile(_BLOCK)
 _LINE = re.compile(rf"{_BLOCK} {_BLOCK} {_BLOCK} {_BLOCK}(?: |\Z)")
-_DATED = re.compile(r"@?\d{4}[/-]")
+_DATED = re.compile(r"[ \t]*\[?@?\d{4}[/-]")
 _MOST = 2 ** 64 - 1
 
 
@@ -109,8 +109,9 @@ def _year_1970() -> int:
 
 
 def read_timed(lines: Iterable[Union[str, bytes]], first: int = 1) -> Iterator[Tuple[float, Optional[Group]]]:
-    """Yields time and group of each line of a log that has a time (FORMATS.md): RDS Spy's, ISO 8601 or seconds. A
-    date is in seconds since the beginning of 1970. The group is None if a block of it is lost. Raises MalformedLine.
+    """Yields time and group of each line of a log that has a time (FORMATS.md): RDS Spy's, ISO 8601, a time of day,
+    seconds or milliseconds. The time is in seconds: that of a date since the beginning of 1970, that of a time of day
+    since midnight. The group is None if a block of it is lost. Raises MalformedLine.
 
     `slots` and `Receiver.watch_timed` take such pairs. `rdsrt_time_in` of the C library reads the times."""
     for group, after in _read(lines, first):
