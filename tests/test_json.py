@@ -109,6 +109,13 @@ class Filter(Case):
         status, objects, _ = ran("".join(f'{slot} text "HI"\n' for slot in range(5)) + "fault line 9\n", "--times", log)
         self.check("times", (status, [it.get("rx_time", "none") for it in objects]),
                    (1, [None, "2024-06-01T07:58:12.08", "2024-06-01T07:58:12.08", "12.5", "12.5", "12.5"]))
+        for text, wanted in (("2024-06-01 07:58:12,080", "2024-06-01T07:58:12.080"), (" [07:58:12.08] x", "07:58:12.08"),
+                             ("\t1717228692080\t57", "1717228692080"), ("[@2024/06/01 07:58:12]", "2024-06-01T07:58:12"),
+                             ("@07:58:12", None), ("12,5", None), ("[12.5", None), ("17172286920800", None)):
+            with open(log, "w", encoding="ascii") as file:
+                file.write(f"C201 2140 4849 0D20 {text}\n")
+            _, objects, _ = ran('0 text "HI"\n', "--times", log)
+            self.check(f"{text!r}", [it.get("rx_time", "none") for it in objects], [wanted])
         self.check("no log", ran('0 text "HI"\n', "--times", "/nowhere")[:2], (1, []))
         self.check("both times", ran("", "--time", "--times", log)[:2], (2, []))
 
