@@ -7,8 +7,8 @@ use rds_arrivals::LastMinute;
 /// The most bytes of a time that is kept.
 const LONGEST: usize = 40;
 
-/// The time in the line of a slot, for a person, without the blanks before it (this project's own rule). No contract
-/// speaks of it.
+/// The time in the line of a slot, for a person, without the blanks before it and the brackets around it (this project's
+/// own rule). No contract speaks of it.
 #[derive(Clone, Copy, Debug, PartialEq, Eq)]
 pub struct LineTime {
     bytes: [u8; LONGEST],
@@ -34,7 +34,7 @@ impl LineTime {
         let Some(stamp) = stamp_of(&mut LastMinute::new(), start) else {
             return time;
         };
-        let text = start[TIME..TIME + stamp.end].trim_ascii_start();
+        let text = without_brackets(start[TIME..TIME + stamp.end].trim_ascii_start());
         for (byte, place) in text.iter().zip(time.bytes.iter_mut()) {
             *place = *byte;
         }
@@ -45,5 +45,13 @@ impl LineTime {
     /// Returns the bytes of the time. None if the line has no time.
     pub fn bytes(&self) -> &[u8] {
         &self.bytes[..self.count.min(LONGEST)]
+    }
+}
+
+/// Returns the bytes between brackets, or all if there are none around them.
+fn without_brackets(text: &[u8]) -> &[u8] {
+    match text {
+        [b'[', inner @ .., b']'] => inner,
+        _ => text,
     }
 }
