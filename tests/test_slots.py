@@ -80,7 +80,7 @@ LEFT_OUT = ("rdsrt: {}. A time looks like @2024/06/01 07:58:12.08, 2024-06-01 07
             "another word. An audit of this output does not judge {}\n")
 # the note on all breaks at the end: how many there are, and where to cut the log
 END = "rdsrt: the times have {}. Do not audit this output: cut the log before {}, and audit each part with --running\n"
-MALFORMED = ["C201 2140 4849 0D2 1", "C201  2140 4849 0D20 1", "hello", HI + "5"]
+MALFORMED = ["C201 2140 4849 0D2 1", "C201  2140 4849 0D20 1", "hello", HI + "5", HI + "\t1.5"]
 
 
 def filled(lines, *words):
