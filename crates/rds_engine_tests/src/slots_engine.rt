@@ -127,7 +127,7 @@ fn gaps(rt: HostRuntime) -> Result<(), Fail> {
 /// A log whose groups have no time is not understood, and its output is empty. A slot without a group is not counted.
 #[test]
 fn no_times(rt: HostRuntime) -> Result<(), Fail> {
-    let log = b"---- ---- ---- ----\nC201 2140 4849 0D20 07:58:12\n".as_slice();
+    let log = b"---- ---- ---- ----\nC201 2140 4849 0D20 07:58\n".as_slice();
     let mut notes = SlotNotes::new();
     let (done, written) = filled(&rt, log, None, &mut notes)?;
     same(&rt, done, Ok(Times::AllLeftOut));
