@@ -1,5 +1,5 @@
 -- Lemmas: bytes have one list of lines, a line says one thing, and lines have one list of slots.
-use Rattle.std.proofs.Common.{◌≡◌, ◌≢◌, ◌⊎◌, ◌<◌, ℕ, List, [], ◌∷◌, ◌++◌, length, length-append, get_or, Option, None}
+use Rattle.std.proofs.Common.{◌≡◌, ◌≢◌, ◌⊎◌, ◌<◌, ℕ, List, [], ◌∷◌, ◌++◌, length, length-append, get_or, Option}
 use Rattle.std.proofs.Common.{Some, refl, sym, ap, ◌∙◌, subst, arith, inl, inr}
 use Rattle.std.specs.Prelude.{All}
 use Rattle.std.proofs.lemmas.List.Elements.{All-head, All-tail}
@@ -12,7 +12,7 @@ use Rattle.rds_fields.specs.TagGroup.{exchanged_in}
 use Rattle.rds_io.specs.Digits.{HasWord}
 use Rattle.rds_lines.specs.LogSlots.{IsLogOf, AreSlots}
 use Rattle.rds_lines.specs.LogLines.{AreLines, IsLine, Line, line_feed, text_of}
-use Rattle.rds_lines.specs.LineSays.{Carry, HasDashes, IsBlock, IsMark, IsSkipped, LineSays, SaysSlot}
+use Rattle.rds_lines.specs.LineSays.{Carry, IsBlock, IsMark, IsSkipped, LineSays, SaysSlot}
 use Rattle.rds_lines.specs.declared.log_line.Block.{Block}
 use Rattle.rds_lines.specs.declared.log_line.Block.TheVariants.{Word, Missing}
 use Rattle.rds_lines.specs.declared.log_line.LogLine.{LogLine}
