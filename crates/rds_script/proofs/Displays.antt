@@ -84,7 +84,7 @@ plain_shown n receivers config events shown none count are i within =
     (rw none at (views_displayed n config events shown are i (omega (arith, count, within))))
 
 -- a display that keeps nothing, after a slot that changed nothing
-plain_next : (n : ℕ) (config : Config) (before after : Input) (s : Shown) → n ≡ 0 → IsDisplayAt n config before s
+pub plain_next : (n : ℕ) (config : Config) (before after : Input) (s : Shown) → n ≡ 0 → IsDisplayAt n config before s
     → StaysShown config before after → IsDisplayAt n config after s
 plain_next n config before after s none d stay =
     let t = tuned_to config before in

@@ -185,7 +185,8 @@ fn nothing_shown(receivers: usize, keep: u16) -> ArrayVec<Shown, MOST_RECEIVERS>
     shown
 }
 
-/// Ends a slot of each display, and appends what changes on it. In most slots nothing does.
+/// Ends a slot of each display, and appends what changes on it. In most slots nothing does. A display that keeps nothing
+/// changes only if its receiver's view may have changed.
 fn push_views(
     form: &Form,
     slot: u64,
@@ -210,6 +211,9 @@ fn push_views(
         return;
     }
     for i in 0..shown.len() {
+        if keep == 0 && !world.changed(i) {
+            continue;
+        }
         push_view(form, slot, world, event, i, &mut shown[i], lines);
     }
 }

@@ -1,14 +1,16 @@
-use Rattle.std.proofs.Common.{◌≡◌, ◌<◌, ◌∙◌, ◌∷◌, ℕ, arith, false, get_or, inl, inr, length, refl, set, subst, sym}
+use Rattle.std.proofs.Common.{◌≡◌, ◌<◌, ◌∙◌, ◌∷◌, ℕ, arith, false, get_or, inl, inr, length, map, refl, set, subst, sym}
 use Rattle.std.proofs.lemmas.Grind.{common_steps}
 use Rattle.std.proofs.lemmas.List.{get_or-set_same}
 use Rattle.std.proofs.lemmas.Option.{get_or_from_slice_get, slice_get-get_or, slice_get_within}
+use Rattle.rds_view_lines.specs.KeptView.{view_shown}
 use Rattle.rds_view_lines.specs.declared.shown.Shown.{Shown}
 use Rattle.rds_world.specs.Slots.{input_of}
 use Rattle.rds_world.specs.State.{distance}
+use Rattle.rds_world.specs.WorldAt.{ShowsStill}
 use Rattle.rds_script.specs.Inside.Watched.{IsDisplayAt}
 use Rattle.rds_script.specs.Outcomes.{whys_at}
-use Rattle.rds_script.proofs.Displays.{other_display, plain_displays}
-use Rattle.rds_script.proofs.OneOutcome.{at_last, next_changes, no_changes, none_changes, other_set}
+use Rattle.rds_script.proofs.Displays.{other_display, plain_displays, plain_next}
+use Rattle.rds_script.proofs.OneOutcome.{at_last, next_changes, no_changes, none_changes, other_set, stay_changes}
 use Rattle.rds_script.proofs.watched.push_views.Goals as goal
 
 pub loop-i-init : goal.loop-i-init
@@ -57,6 +59,32 @@ loop-i-preserved c =
           ∙ c.loop-i.invariant.later k (omega (arith, l));
       same = λ k l. other_display shown i k new (λ e. omega (arith, e, l))
           ∙ c.loop-i.invariant.same k (omega (arith, l));
+    }
+
+-- the display of a receiver that shows what it showed
+pub loop-i-preserved-then-not-changed : goal.loop-i-preserved-then-not-changed
+loop-i-preserved-then-not-changed c =
+    let i = c.loop-i.i in
+    let shown = c.loop-i.shown in
+    let none : c.args.keep ≡ 0 = search arith in
+    let calm : c.changed.result ≡ false = grind arith in
+    record {
+      count = c.loop-i.invariant.count;
+      room = omega (arith, c.loop-i.invariant.room);
+      lines = λ count config events st.
+          let whys = whys_at c.args.form.now config c.args.event.now.receptions events in
+          stay_changes c.args.slot i whys (map view_shown c.args.shown.now) (map view_shown shown) c.args.lines.now
+          c.loop-i.lines (c.loop-i.invariant.later i (omega arith)) (c.loop-i.invariant.lines count config events st);
+      displays = λ count config before st are k s below at. elim (at_last k i below) [
+        | inl less ↦ c.loop-i.invariant.displays count config before st are k s less at
+        | inr same ↦ plain_next c.args.keep config (input_of (distance config) k before)
+            (input_of (distance config) k (c.args.event.now ∷ before)) s none
+            (are k s (sym (c.loop-i.invariant.same k (omega (arith, same))) ∙ at))
+            (subst (λ (m : ℕ). ShowsStill config m (c.args.event.now ∷ before)) (sym same)
+            (c.changed.ensures calm config (c.args.event.now ∷ before) st))
+      ];
+      later = λ k l. c.loop-i.invariant.later k (omega (arith, l));
+      same = λ k l. c.loop-i.invariant.same k (omega (arith, l));
     }
 
 pub returns-then-not-any_changed-clause-lines : goal.returns-then-not-any_changed-clause-lines
