@@ -213,6 +213,12 @@ def note(text):
     return f"rdsrt: {text}\n"
 
 
+# the first note on a no of a log without a time and without a lost slot
+MAY_LACK = note("this no may come from the recorder: no line has a time that rdsrt reads, and no line is a lost slot. If it "
+                "left out lost groups, right texts look wrong. Record with times, and put rdsrt slots before this command, or "
+                "record a line for each lost slot")
+
+
 def note_of_pauses(paused, slots, m):
     """Returns the note that receivers of dwell m show no text in so many slots, if there are any."""
     return paused and note(f"in {paused} of {slots} slots no text segment had come for M = {m} slots: receivers with this M "
@@ -474,21 +480,38 @@ class Warnings(ProgramCase):
             told = noted(f"{AUDIT} --m 16 --padded", log)[2]
             self.check(cause, f"the segments fit no text: {cause}. To list" in told, True)
 
+    def test_a_no_may_come_from_the_recorder(self):
+        """If no line has a time, and no line is a lost slot. A segment that fits no text by itself does not."""
+        changed = HI + HI.replace(b"4849", b"594F")
+        timed = HI.rstrip() + b" 1.0\n"
+        for name, log, wanted in [
+                ("a no", changed, True), ("a yes", HI, False), ("a time", timed + changed, False),
+                ("an unknown time", HI.rstrip() + b" 1717228692.080.5\n" + changed, True),
+                ("a lost slot", LOST + changed, False), ("a byte of no text", b"C201 2140 4802 0D20\n", False),
+                ("a byte behind the return", b"C201 2140 4849 0D58\n", False),
+                ("a segment past the return", HI + b"C201 2142 4142 4344\n", True)]:
+            told = noted(f"{AUDIT} --m 4", log)[2]
+            self.check(name, told.startswith(MAY_LACK), wanted, told)
+            self.check(f"{name}: once", MAY_LACK in told, wanted, told)
+        self.check("all faults", noted(f"{AUDIT} --all", changed)[2].startswith(MAY_LACK), True)
+        self.check("--quiet", noted(f"{AUDIT} --quiet", changed)[2], "")
+
     def test_a_no_names_its_slot_its_line_and_the_rule(self):
         for log, slot, line, m, k, rule in NOES:
             got = noted(f"{AUDIT} --m {m} --k {k}", log)
             told = f"slot {slot} (line {line}): {rule}{next_commands(m, k, rule)}"
             may_be_old = "RT+ tags came" in rule and ("in slot 0" in rule or rule.endswith("any text"))
-            self.check(f"note on a no: {rule}", (got[0], got[2]), (1, note(told + RUNNING * may_be_old)))
+            self.check(f"note on a no: {rule}", (got[0], got[2].removeprefix(MAY_LACK)), (1, note(told + RUNNING * may_be_old)))
         running = noted(f"{AUDIT} --m 8 --running", worked_rows.FLAG_AFTER_FIVE)[2]
         self.check("--running is not named again", RUNNING in running, False)
         for time, shown in TIMES:
             timed = noted(f"{AUDIT} --m 4", HI + HI.replace(b"4849", b"594F").rstrip() + f" {time}\n".encode())[2]
-            self.check(f"the time {time}", timed.startswith(f"rdsrt: slot 1 (line 2{shown}): a text"), True)
+            self.check(f"the time {time}",
+                       timed.removeprefix(MAY_LACK).startswith(f"rdsrt: slot 1 (line 2{shown}): a text"), True)
         name = b"C201 A540 504F 5020\n"
         changed = noted(f"{AUDIT} --m 4", name + name.replace(b"504F", b"4A41"))[2]
         self.check("note on a no of a name", changed,
-                   note("slot 1 (line 2): a name (PTYN) changed without a flip of the A/B flag: if it changes in two segments, "
+                   MAY_LACK + note("slot 1 (line 2): a name (PTYN) changed without a flip of the A/B flag: if it changes in two segments, "
                         f"receivers show a mix{next_commands(4, 0, 'changed')}"))
 
     def test_the_slots_of_a_no_are_those_of_the_plain_audit(self):
@@ -511,7 +534,8 @@ class Warnings(ProgramCase):
                                                               "rdsrt: no 2A")), True, log)
                 continue
             fault, is_name, slot, where = wanted
-            rule = re.fullmatch(r"rdsrt: slot (\d+) \(line \d+\): (.*?)(, in slot .*)?\. To list .*?\n", told)
+            rule = re.fullmatch(r"rdsrt: slot (\d+) \(line \d+\): (.*?)(, in slot .*)?\. To list .*?\n",
+                                told.removeprefix(MAY_LACK))
             may_be_old = fault == "EarlyTag" and (not where or where.startswith(", in slot 0"))
             got = rule and (int(rule[1]), rule[3] or "", "name (PTYN)" in rule[2], told.endswith(RUNNING + "\n"))
             self.check(f"{name}: {fault}", got, (slot, where, is_name, may_be_old), log)
@@ -571,7 +595,7 @@ class Warnings(ProgramCase):
         for log, told in ((tags + text + tags, before + note("1 of 1 text: EarlyTag in slot 2 (line 3)")
                            + note(judged(3, "1 text", 2))),
                           (tags * 2, before + note(judged(2, "0 texts", 2)))):
-            self.check(f"audit --all of {log}", noted(f"{AUDIT} --all", log)[2], told)
+            self.check(f"audit --all of {log}", noted(f"{AUDIT} --all", log)[2], MAY_LACK + told)
 
     def test_a_refused_set_has_the_slot_in_which_it_can_be_accepted(self):
         """Tags wait for a text of their own, which takes a slot. A restart makes each of them wait longer."""
@@ -663,7 +687,8 @@ OBJECTS = [
      [{"kind": "tags_elsewhere", "group": "12A", "groups": 1},
       {"kind": "judged", "slots": 3, "empty": 0, "texts": 1, "names": 0, "tags": 0, "short": 0}]),
     (f"{AUDIT} --m 8 --all", HI + b"C201 2150 594F 0D20\n" + HI + b"C201 2150 4849 0D20\n",
-     [{"kind": "faults", "fault": "EarlyFlag", "of": "text", "count": 2, "harmless": 2, "judged": 4, "first_slot": 2,
+     [{"kind": "may_lack"},
+      {"kind": "faults", "fault": "EarlyFlag", "of": "text", "count": 2, "harmless": 2, "judged": 4, "first_slot": 2,
        "first_line": 3, "last_slot": 3, "last_line": 4,
        "because": "no receiver shows a mix of texts: those with this flag agree, or differ in one segment"},
       {"kind": "judged", "slots": 4, "empty": 0, "texts": 4, "names": 0, "tags": 0, "short": 0}]),
@@ -700,7 +725,7 @@ class Objects(ProgramCase):
             self.check(f"{words}: the facts", (len(got), facts), (len(wanted), wanted), given)
 
     def test_what_to_try_next_has_a_key_of_its_own(self):
-        no = json.loads(noted(f"{AUDIT} --m 4 --json-notes", HI + b"C201 B148 2002 0000\n")[2])
+        no = json.loads(noted(f"{AUDIT} --m 4 --json-notes", HI + b"C201 B148 2002 0000\n")[2].splitlines()[-1])
         self.check("a no", (no["text"].count("rdsrt"), no["advice"].count("rdsrt")), (0, 2))
         yes = json.loads(noted(f"{AUDIT} --m 4 --json-notes", HI)[2])
         self.check("a yes", "advice" in yes, False)

@@ -2,17 +2,18 @@
 
 use arrayvec::ArrayVec;
 use rds_arrivals::Grain;
+use rds_audit::AuditFault;
 use rds_cli::{End, Request, Task};
 use rds_fields::{ANNOUNCEMENT_CODE, NAME_CODE, RADIOTEXT_CODE, RTPLUS_AID, RTPLUS_CODE, TagGroup};
 use rds_io::LogFault;
 use rds_lines::{BreakPlace, GroupCounts, Lack};
-use rds_log::{Breaks, FaultCount, Gap, LogNotes, NoNote, SlotCounts, SlotNotes};
+use rds_log::{Breaks, FaultCount, Gap, LogNotes, NoNote, SegmentCause, SlotCounts, SlotNotes};
 use rds_script::{EarlySet, ScriptNotes};
 use std::io::{self, ErrorKind};
 
 /// The most notes of a run: one for each kind of fault of a text, of a name and of tags before the first text, and at
-/// most fifteen others.
-const MOST_NOTES: usize = 30;
+/// most sixteen others.
+const MOST_NOTES: usize = 31;
 
 /// The texts of a recording that its start and its end may cut.
 const CUT_TEXTS: u64 = 2;
@@ -146,6 +147,8 @@ pub(crate) enum Note<'a> {
     Empty,
     /// The first thing that was set too early.
     SetTooEarly(EarlySet),
+    /// A log that breaks a rule has no time and no lost slot: its recorder may have left out lost groups.
+    MayLack,
     /// The rule that a log breaks first.
     BrokenRule(NoNote, &'a Request<'a>),
     /// How often a fault came, of so many texts or names.
@@ -243,10 +246,14 @@ fn note_script<'a>(run: &'a Run<'a>, notes: &mut Notes<'a>) {
 /// Notes the faults of a log, and that it lacks slots. After a failed write they were not all taken.
 fn note_faults<'a>(run: &'a Run<'a>, notes: &mut Notes<'a>) {
     let log = &run.log;
+    let is_written = !matches!(run.end, End::Fault(LogFault::Write));
+    if is_written && may_lack(run) {
+        add(Note::MayLack, notes);
+    }
     if let Some(no) = log.no {
         add(Note::BrokenRule(no, run.request), notes);
     }
-    if !matches!(run.end, End::Fault(LogFault::Write)) {
+    if is_written {
         note_counts(FaultOf::Before, 0, log.faults.before.counts, notes);
         note_counts(FaultOf::Text, log.texts, log.faults.texts.counts, notes);
         note_counts(FaultOf::Name, log.names, log.faults.names.counts, notes);
@@ -256,6 +263,45 @@ fn note_faults<'a>(run: &'a Run<'a>, notes: &mut Notes<'a>) {
     } else if let Some(hidden) = hidden_of(run) {
         add(Note::WholeSeconds(hidden), notes);
     }
+}
+
+/// Returns whether a log breaks a rule and shows no loss, since each line is a group of its programme and none has a time.
+/// So nobody knows whether its recorder left out lost groups.
+fn may_lack(run: &Run<'_>) -> bool {
+    let (log, input) = (&run.log, &run.log.input);
+    let faults = &log.faults;
+    let is_of_loss = match log.no {
+        Some(no) => makes_no(no),
+        None => {
+            makes_one(faults.before.counts)
+                || makes_one(faults.texts.counts)
+                || makes_one(faults.names.counts)
+        }
+    };
+    is_of_loss && input.read.times.has_none() && input.heard.counts.total() == input.slots
+}
+
+/// Returns whether lost slots can make this no: not if a segment alone fits no text.
+fn makes_no(no: NoNote) -> bool {
+    match no.cause {
+        Some(SegmentCause::Byte(..)) | Some(SegmentCause::AfterReturn(..)) => false,
+        Some(SegmentCause::PastReturn(_))
+        | Some(SegmentCause::EarlyReturn(_))
+        | Some(SegmentCause::NoReturn) => true,
+        None => no.fault != AuditFault::NotOneText,
+    }
+}
+
+/// Returns whether lost slots can make one of these faults. The counts do not say which segments fit no text.
+fn makes_one(counts: [Option<FaultCount>; 5]) -> bool {
+    for count in counts {
+        if let Some(count) = count
+            && count.fault != AuditFault::NotOneText
+        {
+            return true;
+        }
+    }
+    false
 }
 
 /// Notes how often each fault came, of so many texts or names.

@@ -29,6 +29,11 @@ pub(crate) const BEGUN: &[u8] = b"rdsrt: ";
 /// The note on an input without a line.
 const EMPTY: &[u8] = b"the input is empty";
 
+/// The note on a no that the recorder may have made.
+const MAY_LACK: &[u8] =
+    b"this no may come from the recorder: no line has a time that rdsrt reads, and no line is a lost \
+    slot. If it left out lost groups, right texts look wrong";
+
 /// The bytes of an unfinished note.
 pub(crate) type Line = ArrayVec<u8, ROOM>;
 
@@ -37,6 +42,7 @@ pub(crate) fn push_note(note: Note<'_>, line: &mut Line) {
     match note {
         Note::Empty => push(EMPTY, line),
         Note::SetTooEarly(wait) => push_wait(wait, line),
+        Note::MayLack => push(MAY_LACK, line),
         Note::BrokenRule(no, _) => push_no(no, line),
         Note::Found(of, judged, count) => push_found(of, judged, count, line),
         Note::Lacking(lack) => push_lack(lack, line),
@@ -66,6 +72,12 @@ pub(crate) fn push_note(note: Note<'_>, line: &mut Line) {
 /// Appends what to try, if the note has an advice.
 pub(crate) fn push_advice(note: Note<'_>, line: &mut Line) {
     match note {
+        Note::MayLack => {
+            let _ = write!(
+                line,
+                "Record with times, and put rdsrt slots before this command, or record a line for each lost slot"
+            );
+        }
         Note::BrokenRule(no, request) => push_no_advice(no, request, line),
         Note::Found(_, _, count) => push_found_advice(count, line),
         Note::Lacking(_) => {

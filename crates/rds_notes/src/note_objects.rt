@@ -18,6 +18,7 @@ pub(crate) fn push_object(note: Note<'_>, sentence: &[u8], advice: &[u8], line: 
     match note {
         Note::Empty => push_kind("empty", line),
         Note::SetTooEarly(wait) => push_wait(wait, line),
+        Note::MayLack => push_kind("may_lack", line),
         Note::BrokenRule(no, _) => push_no(no, line),
         Note::Found(of, judged, count) => push_found(of, judged, count, line),
         Note::Lacking(lack) => {

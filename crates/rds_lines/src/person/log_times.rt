@@ -58,6 +58,11 @@ impl LogTimes {
         self.first.is_some() && !self.is_told
     }
 
+    /// Returns whether no line that was looked at had a time.
+    pub fn has_none(&self) -> bool {
+        self.first.is_none()
+    }
+
     /// Returns how many lost slots the times can hide, if they are in whole seconds.
     pub fn hides(&self) -> Option<u64> {
         if self.first.is_none() || self.has_fraction {
