@@ -40,6 +40,12 @@ SET(rdsrt_encoder_set_name)
 SLOT(rdsrt_receiver_slot, rdsrt_receiver)
 SLOT(rdsrt_audit_slot, rdsrt_audit)
 
+uint32_t wide_rdsrt_display_slot(struct rdsrt_display *, struct rdsrt_receiver *, const uint16_t *, uint64_t);
+uint32_t rdsrt_display_slot(struct rdsrt_display *it, struct rdsrt_receiver *receiver, const uint16_t *blocks,
+                            size_t count) {
+    return wide_rdsrt_display_slot(it, receiver, blocks, count);
+}
+
 uint32_t wide_rdsrt_audit_all_faults(struct rdsrt_audit *, const uint16_t *, uint64_t, struct rdsrt_faults *);
 uint32_t rdsrt_audit_all_faults(struct rdsrt_audit *it, const uint16_t *blocks, size_t count,
                                 struct rdsrt_faults *faults) {

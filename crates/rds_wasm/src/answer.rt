@@ -7,7 +7,7 @@ use crate::slice_reader::SliceReader;
 use rds_cli::{Request, read_words, request_in};
 use rds_io::TellingWrite;
 use rds_lines::NoNews;
-use rds_notes::{Run, print_notes};
+use rds_notes::{MissingPi, Run, print_notes, print_pi};
 use rds_program::{FAULT, REFUSED, Report, run_read, write_no_memory};
 use std::alloc::{AllocError, Global};
 
@@ -35,10 +35,17 @@ pub fn answer<W: TellingWrite, N: TellingWrite>(
     };
     let read = read_words(alloc, words.as_slice());
     let request = request_in(&read);
+    let missing = match &read {
+        Ok(_) => None,
+        Err(error) => MissingPi::of(error, words.as_slice()),
+    };
     let mut given = SliceReader::new(input);
     let mut report = Report::new();
     let status = run_read(alloc, read, &mut given, writer, &mut report, &mut NoNews);
     print_report(&request, &report, screen);
+    if let Some(missing) = missing {
+        print_pi(missing, None, screen);
+    }
     status
 }
 

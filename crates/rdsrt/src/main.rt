@@ -138,11 +138,12 @@ fn heard_by<'a>(
     read: Result<Option<Request<'_>>, Error>,
     request: &'a Request<'a>,
 ) -> Option<Heard> {
-    let file = request.file?;
-    if !reads_log(request.task) || !fs::metadata(rt, file).ok()?.is_file() {
+    let path = request.file?;
+    if !reads_log(request.task) || !fs::metadata(rt, path).ok()?.is_file() {
         return None;
     }
-    let mut input = Told::new(input_of(rt, rt.stdin(), Some(file)));
+    // A reader of another type than that of a request: with the same one the compiler makes its commands slower.
+    let mut input = Told::new(fs::open(rt, path).ok()?);
     let mut output = Told::new(io::sink());
     let mut report = Report::new();
     let _ = run_read(
