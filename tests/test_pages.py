@@ -15,7 +15,7 @@ REPLIES = ("ok", "silent", "held", "notext", "outoftext")
 FAULT_LINES = ("fault line", "fault row", "fault read", "fault too long", "fault memory", "fault pi",
                "fault confirm", "fault lose")
 # each time is in one page
-TIMES = (crates.FIRST_PROOF, "40 to 60 minutes", "40 seconds to 2 minutes", "3 to 9 minutes")
+TIMES = (crates.FIRST_PROOF, "30 to 60 minutes", "40 seconds to 2 minutes", "3 to 9 minutes")
 
 
 def broken_links(path, text):
