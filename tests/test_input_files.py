@@ -81,11 +81,11 @@ class InputFiles(ProgramCase):
         self.check("no permission", noted([*DECODE, path], **other), (1, b"fault read\n", wanted))
 
     def test_the_proposed_commands_name_the_file(self):
-        """A name that a shell takes as it is; FILE stands for others."""
-        for name in ("flags.log", "./flags.log", "with space.log", "$(reboot).log", "x" * 255):
-            shown = "FILE" if {*name} & {*" $("} else name
+        """A name that a shell takes as it is, and that is no option; FILE stands for others."""
+        for name in ("flags.log", "./flags.log", "-x.log", "with space.log", "$(reboot).log", "x" * 255):
+            shown = "FILE" if {*name} & {*" $("} else f"./{name}" if name[0] == "-" else name
             self.file(FLAGS, name)
-            notes = noted([*AUDIT, "-m", "8", "-k", "1", "--running", name], cwd=self.folder)[2]
+            notes = noted([*AUDIT, "-m", "8", "-k", "1", "--running", "--", name], cwd=self.folder)[2]
             wanted = (f". To list all faults: rdsrt audit --all --k 1 --running --pi C201 --m 8 {shown}"
                       f". To look for lost slots that make a mix: rdsrt witness --pi C201 --m 8 {shown}\n")
             self.check(f"commands for {name}", notes[-len(wanted):], wanted)

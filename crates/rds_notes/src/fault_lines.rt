@@ -167,15 +167,12 @@ fn push_input(request: &Request<'_>, line: &mut Line) {
         return;
     };
     let name = file.as_bytes();
-    let _ = write!(line, " ");
-    push(
-        if name.len() < LONGEST && name.iter().all(is_plain) {
-            name
-        } else {
-            b"FILE"
-        },
-        line,
-    );
+    if name.len() >= LONGEST || !name.iter().all(is_plain) {
+        return push(b" FILE", line);
+    }
+    // a name with a hyphen in front would be an option
+    push(if name.starts_with(b"-") { b" ./" } else { b" " }, line);
+    push(name, line);
 }
 
 /// Returns whether a shell takes this byte of a file's name as it is.
