@@ -28,7 +28,14 @@ decoding pi dwell = record { task = Decode None false 0; pi = pi; rtplus = 11; l
 -- the same of what was heard twice within a window
 abbrev pub confirming : ℕ → ℕ → Requested
 confirming dwell window =
-    record { task = Decode (Some window) false 0; pi = codes "C201"; rtplus = 11; lose = []; dwell = dwell; file = None }
+    record {
+      task = Decode (Some window) false 0;
+      pi = codes "C201";
+      rtplus = 11;
+      lose = [];
+      dwell = dwell;
+      file = None;
+    }
 
 -- the same with reasons, without a window
 abbrev pub decoding_why : ℕ → Requested
@@ -38,7 +45,14 @@ decoding_why dwell =
 -- the same for a display that keeps a text and a name
 abbrev pub decoding_kept : ℕ → Requested
 decoding_kept keep =
-    record { task = Decode None false keep; pi = codes "C201"; rtplus = 11; lose = []; dwell = default_dwell; file = None }
+    record {
+      task = Decode None false keep;
+      pi = codes "C201";
+      rtplus = 11;
+      lose = [];
+      dwell = default_dwell;
+      file = None;
+    }
 
 abbrev pub encoding : ℕ → ℕ → Requested
 encoding dwell pty =

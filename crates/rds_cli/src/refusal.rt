@@ -168,13 +168,11 @@ impl<W: fmt::Write> fmt::Write for Words<'_, W> {
 
 /// Writes why an argument was refused: which numbers its option takes, or the words of `clap`, which may name it again.
 fn fmt_reason<W: fmt::Write>(argument: &str, rest: &str, f: &mut fmt::Formatter<W>) -> fmt::Result {
-    for (option, numbers) in NUMBERS {
-        if rest.starts_with(option) {
-            return write!(
-                f,
-                "{option}write a whole number {numbers}\n\nFor more information, try '--help'.\n"
-            );
-        }
+    if let Some((option, numbers)) = NUMBERS.iter().find(|(option, _)| rest.starts_with(*option)) {
+        return write!(
+            f,
+            "{option}write a whole number {numbers}\n\nFor more information, try '--help'.\n"
+        );
     }
     if is_below_zero(argument)
         && let Some((_, usage)) = rest.rsplit_once(USAGE)
@@ -233,12 +231,8 @@ fn fmt_cure<W: fmt::Write>(argument: &str, usage: &str, f: &mut fmt::Formatter<W
 
 /// Returns which commands have an option that another one has not.
 fn commands_with(argument: &str) -> Option<&'static str> {
-    for (option, commands) in OF_SOME {
-        if argument == option {
-            return Some(commands);
-        }
-    }
-    None
+    let (_, commands) = OF_SOME.iter().find(|(option, _)| argument == *option)?;
+    Some(*commands)
 }
 
 /// Returns what the command of this usage has in place of an option. Empty if it has nothing.
@@ -253,17 +247,9 @@ fn in_place(argument: &str, usage: &str) -> &'static str {
 
 /// Returns the option that an argument is if its case does not count.
 fn lower_case(argument: &str) -> Option<&'static str> {
-    for option in OF_ALL {
-        if argument != option && argument.eq_ignore_ascii_case(option) {
-            return Some(option);
-        }
-    }
-    for (option, _) in OF_SOME {
-        if argument != option && argument.eq_ignore_ascii_case(option) {
-            return Some(option);
-        }
-    }
-    None
+    let of_some = OF_SOME.iter().map(|(option, _)| *option);
+    of_some.chain(OF_ALL).find(|option| argument != *option
+        && argument.eq_ignore_ascii_case(option))
 }
 
 /// Returns whether an argument with a hyphen is a number, which was meant for the option before it.

@@ -74,15 +74,7 @@ pub fn simulate_within<R: TellingRead + Drop, W: TellingWrite>(
         rtplus: TagGroup::usual(),
         keep: 0,
     };
-    let playing = Playing { form, config };
-    play_script(
-        playing,
-        alloc,
-        reader,
-        writer,
-        records,
-        &mut ScriptNotes::new(),
-    )
+    play_without_notes(form, alloc, reader, writer, config, records)
 }
 
 /// Plays a script with a station alone, and writes the station's log: for each slot the reply to its command as a
@@ -118,6 +110,22 @@ pub fn encode_within<R: TellingRead + Drop, W: TellingWrite>(
     let form = Form::Log {
         rtplus: TagGroup::usual(),
     };
+    play_without_notes(form, alloc, reader, writer, config, records)
+}
+
+/// Plays a script in this form with a bound on records, and takes no notes.
+fn play_without_notes<R: TellingRead + Drop, W: TellingWrite>(
+    form: Form,
+    alloc: Global,
+    reader: R,
+    writer: &mut W,
+    config: Config,
+    records: u64,
+) -> Result<(), LogFault>
+    requires { records ≤ 2 ^ 32 }
+    ensures { Plays (with_form form config) records (reading R.remaining R.failures reader)
+        (traffic W.contents W.failures writer.old writer.new) result }
+{
     let playing = Playing { form, config };
     play_script(
         playing,

@@ -129,7 +129,8 @@ impl Watched {
             OnOk result (CanBeTaken config receivers event.now events)) }
         ensures outcome { WhereWatchedStands self.old (λ config receivers events.
             OnOk result ((o : Outcome) × IsOutcome self.old.keep config event.now events o
-            × (o.views ≡ views_kept self.new) × (lines.new ≡ lines.old ++ (slot_lines form.now config slot event.now events (views_kept self.old) o
+            × (o.views ≡ views_kept self.new)
+            × (lines.new ≡ lines.old ++ (slot_lines form.now config slot event.now events (views_kept self.old) o
             ++ compared_lines config slot (length o.views) event.now events (views_kept self.old) o.views)))) }
         ensures refused { WhereWatchedStands self.old (λ config receivers events.
             IfErr result (IsStepRefused config receivers event.now events)) }

@@ -14,7 +14,7 @@ const LONG: usize = 10;
 /// The byte order marks of UTF-16.
 const MARKS: [&[u8]; 2] = [b"\xFF\xFE", b"\xFE\xFF"];
 
-/// Returns the form that a line looks like. `None` if it is none of these, or that of a log.
+/// Returns the form that a line looks like. `None` for another one, and for that of a log.
 pub(crate) fn form_of(line: &[u8]) -> Option<&'static str> {
     if line.starts_with(b"{") {
         return Some("JSON");
@@ -66,7 +66,7 @@ fn is_of_protocol(line: &[u8]) -> bool {
     }
 }
 
-/// Returns whether a word begins at this place: nothing is before it, or a byte that stands between words.
+/// Returns whether a word begins at this place: nothing is before it, or a byte that separates words.
 fn begins_word(line: &[u8], place: usize) -> bool {
     match place.checked_sub(1) {
         Some(before) => ends_word(line, before),
@@ -74,7 +74,7 @@ fn begins_word(line: &[u8], place: usize) -> bool {
     }
 }
 
-/// Returns whether a word ends before this place: the line ends there, or a byte follows that stands between words.
+/// Returns whether a word ends before this place: the line ends there, or a byte follows that separates words.
 fn ends_word(line: &[u8], place: usize) -> bool {
     match line.get(place) {
         Some(byte) => is_between(*byte),
@@ -82,7 +82,7 @@ fn ends_word(line: &[u8], place: usize) -> bool {
     }
 }
 
-/// Returns whether this byte stands between words.
+/// Returns whether this byte separates words.
 fn is_between(byte: u8) -> bool {
     b" \t,;".contains(&byte)
 }
